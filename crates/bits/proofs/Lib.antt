@@ -1,0 +1,4 @@
+pub mod Laws  -- fields: bits and numbers at places
+pub mod Packed  -- fields side by side, and the bytes that hold them
+pub mod Stored  -- storing fields, bit by bit
+pub mod Set  -- sets as masks

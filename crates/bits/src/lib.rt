@@ -1,0 +1,127 @@
+// Fields of bits in bytes, and sets as masks: the leaves that every other crate reads and writes by.
+ghost use mathlib.Core.Path.{_≡_};
+ghost use Prim.Native.Nat.{_*_, _/_, _%_, _^_, _<_};
+ghost use lib.ListN.{getD};
+ghost use Rattle.bits.specs.Field.{numberAt, fieldAt};
+ghost use Rattle.bits.specs.Packed.{withBit, put as putOf};
+ghost use Rattle.bits.specs.Set.{sizeOf, inSet, subsetOf, properOf};
+
+// What stands at a place of some bits: their number; or nothing, where the place is wider than 24 bits or runs past the end.
+pub enum Field {
+    Value(u64),
+    Absent,
+}
+
+// Byte k, or 0 past the end.
+fn byte_or_zero(s: &[u8], k: usize) -> u64
+    ensures { λ r. ⌜ r ≡ getD (now (s .entry)) k 0 ⌝ }
+    ensures { λ r. ⌜ r < 256 ⌝ }
+{
+    if k < s.len() { s[k] as u64 } else { 0 }
+}
+
+// The number of the four bytes from byte k on, with zeros past the end.
+fn window(s: &[u8], k: usize) -> u64
+    requires { ⌜ k < 2 ^ 62 ⌝ }
+    ensures { λ r. ⌜ r ≡ numberAt (now (s .entry)) (8 * k) 32 ⌝ }
+{
+    let a = byte_or_zero(s, k);
+    let b = byte_or_zero(s, k + 1);
+    let c = byte_or_zero(s, k + 2);
+    let d = byte_or_zero(s, k + 3);
+    ((a * 256 + b) * 256 + c) * 256 + d
+}
+
+// The field of w bits that begins at bit pos.
+pub fn field_at(s: &[u8], pos: usize, w: usize) -> Field
+    ensures { λ r. ⌜ r ≡ fieldAt (now (s .entry)) pos w ⌝ }
+{
+    if 24 < w {
+        return Field::Absent;
+    }
+    let k = pos / 8;
+    let r = pos % 8;
+    if s.len() < k + (r + w + 7) / 8 {
+        return Field::Absent;
+    }
+    let x = window(s, k) >> (32 - r - w);
+    let ones = (1u64 << w) - 1;
+    Field::Value(x & ones)
+}
+
+// Bit k of x, counted from the least significant.
+fn bit(x: u64, k: usize) -> u64
+    ensures { λ r. ⌜ r ≡ x / 2 ^ k % 2 ⌝ }
+{
+    if k < 64 { (x >> k) % 2 } else { 0 }
+}
+
+// Byte v with bit i of the bytes, b, stored in it: the first bit of a byte clears it.
+fn with_bit(v: u8, i: usize, b: u64) -> u8
+    requires { ⌜ b < 2 ⌝ }
+    ensures { λ r. ⌜ r ≡ withBit v i b ⌝ }
+{
+    if i % 8 == 0 {
+        return (b * 128) as u8;
+    }
+    ((v as u64 + (b << (7 - i % 8))) % 256) as u8
+}
+
+// The low w bits of x are stored from bit pos on: the first bit of each byte clears that byte, and all that stands before bit pos stays.
+// Where they have no room, nothing is stored.
+pub fn put(out: &mut [u8], pos: usize, w: u8, x: u64)
+    ensures { λ r. ⌜ now (out .exit) ≡ putOf (now (out .entry)) pos w x ⌝ }
+{
+    let n = w as usize;
+    let k = pos / 8;
+    let r = pos % 8;
+    if out.len() < k + (r + n + 7) / 8 {
+        return;
+    }
+    for j in 0..n {
+        let i = k + (r + j) / 8;
+        let b = bit(x, n - 1 - j);
+        out[i] = with_bit(out[i], r + j, b);
+    }
+}
+
+// The size of a set as it counts: at most 8.
+fn size_of(n: u64) -> u64
+    ensures { λ r. ⌜ r ≡ sizeOf n ⌝ }
+{
+    if n < 8 { n } else { 8 }
+}
+
+// Whether i is a member of the set of size n that is the low bits of x.
+pub fn member(x: u64, n: u64, i: u64) -> bool
+    ensures { λ r. ⌜ r ≡ inSet n x i ⌝ }
+{
+    let m = size_of(n);
+    if i < m {
+        (x >> (m - 1 - i)) & 1 == 1
+    } else {
+        false
+    }
+}
+
+// Whether the set of size n in x is a subset of the set of size m in y. Both are shifted so that member 0 is bit 7.
+pub fn subset(x: u64, n: u64, y: u64, m: u64) -> bool
+    ensures { λ r. ⌜ r ≡ subsetOf n x m y ⌝ }
+{
+    let p = size_of(n);
+    let q = size_of(m);
+    let a = (x << (8 - p)) & 255;
+    let b = (y << (8 - q)) & 255;
+    a & b == a
+}
+
+// Whether it is a subset, and the other is none of it.
+pub fn proper(x: u64, n: u64, y: u64, m: u64) -> bool
+    ensures { λ r. ⌜ r ≡ properOf n x m y ⌝ }
+{
+    if subset(x, n, y, m) {
+        !subset(y, m, x, n)
+    } else {
+        false
+    }
+}

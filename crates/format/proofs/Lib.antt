@@ -1,0 +1,6 @@
+pub mod Fault  -- faults, and results one after another
+pub mod Chain  -- functions that read step by step
+pub mod Store  -- functions that judge and store step by step
+pub mod Holds  -- fields in bytes
+pub mod Law  -- lawful formats, and each way of building one
+pub mod Round  -- whole files: read, written, refused

@@ -1,0 +1,81 @@
+-- `format::take` meets its contract: a cursor with a number stays; else the field that stands at the place, or its absence, is what the next w bits are.
+use mathlib.Core.Path.{_≡_, refl, sym, ap, _∙_}
+use mathlib.Core.List.{List}
+use Prim.Native.Nat.{ℕ, _+_, _*_, _≤_, _<_}
+use native.Mathlib.Decide.{decLe}
+use native.Mathlib.Omega.{arith}
+use borrow.Author.Needs.{needs}
+use lib.ListN.{length}
+use lib.Pow.{pow-pos}
+use Rattle.bits.specs.Field.{numberAt, fieldAt}
+use Rattle.bits.specs.declared.Field.the-variants.{Value, Absent}
+use Rattle.bits.proofs.Laws.{number-lt, field-value, field-short}
+use Rattle.format.specs.Format.{ok, bad, taken}
+use Rattle.format.proofs.Fault.{taken-value, taken-short}
+use Rattle.format.proofs.Chain.{from-good, res-good, res-bad, chain-skip}
+use Rattle.format.proofs.take.Statement.{statement}
+use Rattle.format.proofs.take.Tie as tie
+
+module _ (s : List ℕ) (pos w : ℕ) (n : w ≤ 24) where
+  there : (x : ℕ) → fieldAt s pos w ≡ Value x → (x ≡ numberAt s pos w) × (taken s pos w ≡ ok x (pos + w))
+  there x e = go (decLe (pos + w) (8 * length s))
+    where
+      go : Dec (pos + w ≤ 8 * length s) → (x ≡ numberAt s pos w) × (taken s pos w ≡ ok x (pos + w))
+      go (yes h) = let f = field-value s pos w n h in let v : numberAt s pos w ≡ x = cc in (sym v, taken-value s pos w h ∙ ap (λ (y : ℕ). ok y (pos + w)) v)
+      go (no h) = let f = field-short s pos w n (omega arith) in let z : _≡_ {A = ℕ} 0 1 = cc in absurd (omega arith)
+
+  absent : fieldAt s pos w ≡ Absent → (8 * length s < pos + w) × (taken s pos w ≡ bad 1 (8 * length s))
+  absent e = go (decLe (pos + w) (8 * length s))
+    where
+      go : Dec (pos + w ≤ 8 * length s) → (8 * length s < pos + w) × (taken s pos w ≡ bad 1 (8 * length s))
+      go (yes h) = let f = field-value s pos w n h in let z : _≡_ {A = ℕ} 0 1 = cc in absurd (omega arith)
+      go (no h) = (omega arith, taken-short s pos w (omega arith))
+
+returns : tie.Need-returns
+returns c =
+    let a = c .before .before .before .args in
+    (chain-skip (λ q. taken (a .s .now) q (a .w)) (a .at) 0 (omega arith), record { place = omega arith; fits = pow-pos (a .w); below = omega arith })
+
+field-at-requires : tie.Need-field-at-requires
+field-at-requires c κs = search needs
+
+enum-known-f : tie.Need-enum-known-f
+enum-known-f c = search needs
+
+add-t9 : tie.Need-add-t9
+add-t9 c = search needs
+
+enum-told : tie.Need-enum-told
+enum-told c = search needs
+
+mul-t12 : tie.Need-mul-t12
+mul-t12 c =
+    let k = c .before .before in
+    let a = k .before .before .before .before .args in
+    omega (arith, absent (a .s .now) (a .at .pos) (a .w) (omega arith) (sym (k .field-at .ensures) ∙ c .enum-told .given .1) .0)
+
+returns-2 : tie.Need-returns-2
+returns-2 c =
+    let k = c .before .before .before in
+    let a = k .before .before .before .before .args in
+    let x = c .before .f .given .0 .0 in
+    let e = there (a .s .now) (a .at .pos) (a .w) (omega arith) x (sym (k .field-at .ensures) ∙ c .before .f .given .1) in (
+      res-good _ x refl ∙ sym (from-good (a .at) _ (k .before .if1 .left) ∙ e .1),
+      record {
+        place = omega arith;
+        fits = omega (arith, e .0, number-lt (a .s .now) (a .at .pos) (a .w));
+        below = omega (arith, e .0, number-lt (a .s .now) (a .at .pos) (a .w));
+      },
+    )
+
+returns-3 : tie.Need-returns-3
+returns-3 c =
+    let k = c .before .before in
+    let a = k .before .before .before .before .args in
+    let e = absent (a .s .now) (a .at .pos) (a .w) (omega arith) (sym (k .field-at .ensures) ∙ c .enum-told .given .1) in (
+      res-bad _ 0 (omega arith) ∙ ap (bad 1) (omega arith) ∙ sym (from-good (a .at) _ (k .before .if1 .left) ∙ e .1),
+      record { place = omega (arith, e .0); fits = pow-pos (a .w); below = omega arith },
+    )
+
+pub take-spec : {M : Type 1} → statement M
+take-spec = tie.close (tie.spec returns field-at-requires enum-known-f add-t9 enum-told mul-t12 returns-2 returns-3)

@@ -1,0 +1,40 @@
+-- What the functions that read and write a format say of one step. A reader of the published calls can pass over this file:
+-- their promises do not cite it. A cursor goes through all steps; once it holds a number, every later step leaves it as it is.
+-- Assumes nothing.
+use mathlib.Core.Path.{_≡_}
+use mathlib.Core.Bool.{Bool, cond}
+use mathlib.Core.List.{List}
+use mathlib.Core.Option.{Option, none, some}
+use Prim.Native.Nat.{ℕ, _+_, _-_, _^_, _≤_, _<_}
+use lib.Dec.{eqb}
+use Rattle.bits.specs.Packed.{widths, puts}
+use Rattle.format.specs.Format.{Res, ok, bad, Format, first}
+use Rattle.format.specs.declared.Cursor.{Cursor}
+
+-- what k gives at the place reached, unless a number was given before
+unfoldable pub from : {A : Type 0} → Cursor → (ℕ → Res A) → Res A
+from c k = cond (eqb (c .number) 0) (k (c .pos)) (bad (c .number) (c .pos))
+
+-- the result that a cursor and a value stand for
+unfoldable pub resOf : {A : Type 0} → Cursor → A → Res A
+resOf c a = from c (ok a)
+
+-- the cursor, with the number n unless the test holds or a number was given before
+unfoldable pub judged : Cursor → Bool → ℕ → Cursor
+judged c b n = cond (eqb (c .number) 0) (cond b c record { number = n; pos = c .pos }) c
+
+-- the fault that a number stands for: 0 is none
+unfoldable pub faultOf : ℕ → Option ℕ
+faultOf n = cond (eqb n 0) none (some n)
+
+-- a number that was read: the place after it is at most w bits on, it fits w bits, and it is below end (or 0)
+pub record Near (at next : Cursor) (value w end : ℕ) : Type 0 where
+  pub place : next .pos ≤ at .pos + w
+  pub fits : value < 2 ^ w
+  pub below : value ≤ end - 1
+
+-- a value was judged as f says, from the first cursor to the second, and if no number came of it, its fields were stored in the bytes o, now o′
+pub record Stores {A : Type 0} (f : Format A) (a : A) (o o′ : List ℕ) (at next : Cursor) : Type 0 where
+  pub fault : faultOf (next .number) ≡ first (faultOf (at .number)) (f .judge a)
+  pub place : next .number ≡ 0 → next .pos ≡ at .pos + widths (f .fields a)
+  pub stored : next .number ≡ 0 → o′ ≡ puts o (at .pos) (f .fields a)

@@ -1,0 +1,108 @@
+// The steps that every reader and writer of a format is made of: a field is taken, judged or stored, and a cursor goes along.
+ghost use mathlib.Core.Path.{_≡_};
+ghost use Prim.Native.Nat.{_+_, _*_, _^_, _≤_, _<_};
+ghost use lib.Dec.{ltb};
+ghost use Rattle.format.specs.Format.{Format, taken, field, within as withinOf};
+ghost use Rattle.format.specs.Steps.{from, resOf, judged as judgedOf, Near, Stores};
+
+// The place reached, in bits; or a refusal: its number, and the bits taken until it was judged. Number 0: none was given.
+pub struct Cursor {
+    pub number: u8,
+    pub pos: usize,
+}
+
+// A number that was read, with the place after it; 0 where a refusal was given.
+pub struct Taken {
+    pub at: Cursor,
+    pub value: u64,
+}
+
+// The next w bits.
+pub fn take(s: &[u8], at: Cursor, w: usize) -> Taken
+    requires { ⌜ (w ≤ 24) × (at .pos < 2 ^ 40) ⌝ }
+    ensures { λ r. ⌜ resOf (r .at) (r .value) ≡ from at (λ q. taken (now (s .entry)) q w) ⌝ }
+    ensures { λ r. ⌜ Near at (r .at) (r .value) w (2 ^ w) ⌝ }
+{
+    if at.number != 0 {
+        return Taken { at, value: 0 };
+    }
+    let pos = at.pos;
+    let f = bits::field_at(s, pos, w);
+    match f {
+        bits::Field::Value(x) => Taken {
+            at: Cursor {
+                number: 0,
+                pos: pos + w,
+            },
+            value: x,
+        },
+        bits::Field::Absent => Taken {
+            at: Cursor {
+                number: 1,
+                pos: s.len() * 8,
+            },
+            value: 0,
+        },
+    }
+}
+
+// The cursor, with the number n unless the test holds or a number was given before.
+pub fn judged(at: Cursor, holds: bool, n: u8) -> Cursor
+    ensures { λ r. ⌜ r ≡ judgedOf at holds n ⌝ }
+{
+    if holds {
+        return at;
+    }
+    if at.number == 0 {
+        let pos = at.pos;
+        return Cursor { number: n, pos };
+    }
+    at
+}
+
+// Whether x is from lo up to, not including, end.
+pub fn within(lo: u64, end: u64, x: u64) -> bool
+    ensures { λ r. ⌜ r ≡ withinOf lo end x ⌝ }
+{
+    if lo <= x { x < end } else { false }
+}
+
+// A field of w bits from lo up to, not including, end; any other number is refused with n.
+pub fn read_field(s: &[u8], at: Cursor, w: usize, lo: u64, end: u64, n: u8) -> Taken
+    requires { ⌜ (w ≤ 24) × (at .pos < 2 ^ 40) × (0 < n) ⌝ }
+    ensures { λ r. ⌜ resOf (r .at) (r .value) ≡ from at (field w (withinOf lo end) n .read (now (s .entry))) ⌝ }
+    ensures { λ r. ⌜ Near at (r .at) (r .value) w end ⌝ }
+{
+    let t = take(s, at, w);
+    let x = t.value;
+    let next = judged(t.at, within(lo, end, x), n);
+    if next.number != 0 {
+        return Taken { at: next, value: 0 };
+    }
+    Taken { at: next, value: x }
+}
+
+// Whether x fits w bits.
+fn fits(x: u64, w: u8) -> bool
+    ensures { λ r. ⌜ r ≡ ltb x (2 ^ w) ⌝ }
+{
+    if w < 64 { x >> w == 0 } else { true }
+}
+
+// A field of w bits is judged, by whether its test holds, and stored.
+pub fn put_field(out: &mut [u8], at: Cursor, w: u8, x: u64, holds: bool, n: u8) -> Cursor
+    requires { ⌜ (at .pos < 2 ^ 40) × (0 < n) ⌝ }
+    ensures { λ r. ⌜ Stores (field w (λ _. holds) n) x (now (out .entry)) (now (out .exit)) at r ⌝ }
+    ensures { λ r. ⌜ r .pos ≤ at .pos + w ⌝ }
+{
+    let checked = judged(judged(at, fits(x, w), n), holds, n);
+    if checked.number != 0 {
+        return checked;
+    }
+    let pos = at.pos;
+    bits::put(out, pos, w, x);
+    Cursor {
+        number: 0,
+        pos: pos + w as usize,
+    }
+}

@@ -1,0 +1,3 @@
+pub mod Laws  -- rules in memory, widths, values
+pub mod NodeLaws  -- which nodes a formula may have
+pub mod PolicyLaw  -- the rule file's format is lawful

@@ -1,0 +1,64 @@
+-- Which nodes a formula may have [01:The rule file, the operator table and the two paragraphs after it].
+-- A node is the number of its 20 bits: operator (4), a (8), b (8). A value operand is a holder (3) and an attribute number (5).
+-- Assumes nothing.
+use mathlib.Core.Bool.{Bool, false, _&&_, _||_, cond}
+use mathlib.Core.List.{List, [], _∷_}
+use Prim.Native.Nat.{ℕ, _/_, _%_}
+use lib.Dec.{ltb, leb, eqb}
+use lib.ListN.{length, getD}
+use Rattle.policy.specs.Policy.{Attr, Lists}
+
+-- a node's operator
+unfoldable pub opOf : ℕ → ℕ
+opOf x = x / 65536
+
+-- a node's first operand
+unfoldable pub firstOf : ℕ → ℕ
+firstOf x = x / 256 % 256
+
+-- a node's second operand
+unfoldable pub secondOf : ℕ → ℕ
+secondOf x = x % 256
+
+-- a value operand's holder: 0 user, 1 session as it is, 2 session as proposed, 3 item as it is, 4 item as proposed, 5 a constant
+unfoldable pub holderOf : ℕ → ℕ
+holderOf x = x / 32
+
+-- a value operand's attribute number, or the constant
+unfoldable pub placeOf : ℕ → ℕ
+placeOf x = x % 32
+
+-- whether formula f may use the holder h besides constants: open session, change session, make item, change item, then the permissions
+unfoldable pub mayUse : ℕ → ℕ → Bool
+mayUse f h =
+    cond (eqb f 0) (eqb h 0 || eqb h 2)
+    (cond (eqb f 1) (leb h 2)
+    (cond (eqb f 2) (eqb h 1 || eqb h 4)
+    (cond (eqb f 3) (eqb h 1 || eqb h 3 || eqb h 4)
+    (eqb h 1 || eqb h 3))))
+
+-- the attributes of a holder
+unfoldable pub ofHolder : Lists → ℕ → List Attr
+ofHolder c h = cond (eqb h 0) (c .ofUser) (cond (leb h 2) (c .ofSession) (c .ofItem))
+
+-- whether the operand x of formula f names an attribute of the kind
+unfoldable pub names : Lists → ℕ → ℕ → ℕ → Bool
+names c f kind x =
+    let l = ofHolder c (holderOf x) in
+    mayUse f (holderOf x) && ltb (placeOf x) (length l) && eqb (getD l (placeOf x) record { kind = 0; size = 0 } .kind) kind
+
+-- whether it names an atomic value: an attribute, or a constant from 0 to 15
+unfoldable pub atomic : Lists → ℕ → ℕ → Bool
+atomic c f x = cond (eqb (holderOf x) 5) (ltb (placeOf x) 16) (names c f 0 x)
+
+-- whether x may be node i of formula f
+unfoldable pub nodeOk : Lists → ℕ → ℕ → ℕ → Bool
+nodeOk c f i x =
+    let a = firstOf x in
+    let b = secondOf x in
+    cond (leb (opOf x) 1) (eqb a 0 && eqb b 0)
+    (cond (eqb (opOf x) 2) (ltb a i && eqb b 0)
+    (cond (leb (opOf x) 4) (ltb a i && ltb b i)
+    (cond (leb (opOf x) 7) (atomic c f a && atomic c f b)
+    (cond (eqb (opOf x) 8) (atomic c f a && names c f 1 b)
+    (cond (leb (opOf x) 10) (names c f 1 a && names c f 1 b) false)))))

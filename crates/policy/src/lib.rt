@@ -1,0 +1,43 @@
+// Rules in memory, and what each of their parts may hold. The meaning of the rule file is in specs/.
+pub mod nodes;
+pub mod shape;
+
+// The attributes of one class of holders, count of them: attribute k is of kind kinds[k] (0 atomic, 1 a set) and size sizes[k].
+pub struct Class {
+    pub count: u8,
+    pub kinds: [u8; 8],
+    pub sizes: [u8; 8],
+}
+
+// The attributes of users, sessions and items.
+pub struct Classes {
+    pub user: Class,
+    pub session: Class,
+    pub item: Class,
+}
+
+// Holders' values, count of them.
+pub struct Values {
+    pub count: u8,
+    pub values: [u8; 32],
+}
+
+// Starting sessions, count of them: their users and values.
+pub struct Sessions {
+    pub count: u8,
+    pub users: [u8; 32],
+    pub values: [u8; 32],
+}
+
+// Rules in memory. Every field is a plain number that may be out of range; places that no count covers don't matter.
+// Formula f (open session, change session, make item, change item, then the permissions) has lengths[f] nodes;
+// node i is nodes[64 * f + i], operator * 65536 + a * 256 + b.
+pub struct Rules {
+    pub classes: Classes,
+    pub users: Values,
+    pub sessions: Sessions,
+    pub items: Values,
+    pub permissions: u8,
+    pub lengths: [u8; 12],
+    pub nodes: [u32; 768],
+}

@@ -1,0 +1,71 @@
+-- `reader::lists::read_class` meets its contract: the judgement is the format's test, and where it gave a number, the class does not matter.
+-- Assumes nothing.
+use mathlib.Core.Path.{_≡_, ap, sym, _∙_}
+use mathlib.Core.Bool.{true}
+use Prim.Native.Nat.{ℕ, _<_}
+use native.Mathlib.Omega.{arith}
+use borrow.Author.Needs.{needs}
+use borrow.Author.Tests.{leb-true}
+use lib.Dec.{leb}
+use Rattle.format.specs.Format.{Format}
+use Rattle.format.specs.Steps.{from, resOf}
+use Rattle.format.specs.declared.Cursor.{Cursor}
+use Rattle.format.proofs.Chain.{res-any, chain-check}
+use Rattle.policy.specs.Policy.{width}
+use Rattle.policy.specs.File.{classFormat}
+use Rattle.policy.specs.Rules.{attrsOf}
+use Rattle.policy.proofs.Laws.{attrs-none}
+use Rattle.format.proofs.Fault.{judged-pos, judged-true}
+use Rattle.reader.proofs.lists.read_class.Statement.{statement}
+use Rattle.reader.proofs.lists.read_class.Tie as tie
+
+read-attrs-requires : tie.Need-read-attrs-requires
+read-attrs-requires c κs = search needs
+
+class-width-requires : tie.Need-class-width-requires
+class-width-requires c κs = search needs
+
+judged-requires : tie.Need-judged-requires
+judged-requires c κs = search needs
+
+-- the class that was read, judged
+read : (c : tie.After-judged)
+    → let w = c .before in let k = w .before .before in let a = k .before .before .args in
+    resOf (c .judged .result) (attrsOf (k .read-attrs .result .class)) ≡ from (a .at) (classFormat (a .n) .read (a .s .now))
+unfolding classFormat
+read c =
+    let w = c .before in
+    let k = w .before .before in
+    let a = k .before .before .args in
+    ap (λ (x : Cursor). resOf x (attrsOf (k .read-attrs .result .class))) (c .judged .ensures)
+    ∙ chain-check _ _ 5 (a .s .now) _ _ _ _ (k .read-attrs .ensures .0) (ap (λ (x : ℕ). leb x 8) (w .class-width .ensures .0)) (omega arith)
+
+returns : tie.Need-returns
+unfolding width
+returns c =
+    let j = c .before .before in
+    let n : 0 < j .judged .result .number = omega arith in
+    let k = j .before .before .before in (
+      res-any (j .judged .result) _ _ n ∙ read j,
+      (
+        record { count = omega arith; wide = rw attrs-none (omega arith) },
+        omega (arith, ap (λ (x : Cursor). x .pos) (j .judged .ensures), judged-pos (k .read-attrs .result .at) (leb (j .before .class-width .result) 8) 5, k .read-attrs .ensures .1 .0),
+      ),
+    )
+
+returns-2 : tie.Need-returns-2
+returns-2 c =
+    let j = c .before .before in
+    let k = j .before .before .before in
+    let w = j .before .class-width in
+    let held : leb (w .result) 8 ≡ true = judged-true (k .read-attrs .result .at) (leb (w .result) 8) 5 (omega arith) (sym (ap (λ (x : Cursor). x .number) (j .judged .ensures)) ∙ c .if1 .left) in (
+      read j,
+      (
+        record { count = omega arith; wide = omega (arith, leb-true (w .result) 8 held, w .ensures .0) },
+        omega (arith, ap (λ (x : Cursor). x .pos) (j .judged .ensures), judged-pos (k .read-attrs .result .at) (leb (w .result) 8) 5, k .read-attrs .ensures .1 .0),
+      ),
+    )
+
+pub read-class-spec : {M : Type 1} → statement M
+read-class-spec =
+    tie.close (tie.spec read-attrs-requires class-width-requires judged-requires returns returns-2)

@@ -1,0 +1,133 @@
+-- `reader::values::read_value` meets its contract. The loop's invariant: the values of the attributes so far, with what is read for the others, are
+-- the value that the format reads, and both fit 8 bits. The measure is how many attributes are left. The last step is the format's field of no
+-- bits. Assumes nothing.
+use mathlib.Core.Path.{_≡_}
+use Prim.Native.Nat.{_+_, _-_, _*_, _%_, _^_, _≤_}
+use native.Mathlib.Nat.{mod-eq-of-lt}
+use native.Mathlib.Omega.{arith}
+use borrow.Author.Needs.{needs}
+use Rattle.format.specs.Steps.{judged}
+use Rattle.policy.specs.Rules.{attrAt}
+use Rattle.reader.proofs.Value.{Partly, partly-none, partly-narrow, partly-room, partly-more, partly-below, partly-all}
+use Rattle.reader.proofs.values.read_value.Statement.{statement}
+use Rattle.reader.proofs.values.read_value.Tie as tie
+
+abbrev Inv-loop : tie.InvT-loop
+Inv-loop s kinds sizes v₀ p₀ i₀ i-end v p i =
+    (i ≤ i-end) × (i-end ≤ 8) × Partly s record { count = i-end; kinds = kinds; sizes = sizes } p₀ p v i
+
+abbrev μ-loop : tie.MeasureT-loop
+μ-loop s kinds sizes v₀ p₀ i₀ i-end v p i = i-end - i
+
+-- a value's bits, and room for it beside those so far
+
+narrow : (c : tie.After-bits-for Inv-loop μ-loop) → c .bits-for .result ≤ 8
+unfolding attrAt
+narrow c =
+    let l = c .before .before .loop in
+    let a = c .before .before .before .before .before .before .before .args in
+    partly-narrow (a .s .now) (a .class) (a .at) (l .p) (l .v) (l .i) (c .bits-for .result) (omega arith) (l .inv .2) (c .bits-for .ensures)
+
+room : (c : tie.After-bits-for Inv-loop μ-loop) → c .before .before .loop .v * 2 ^ c .bits-for .result + 2 ^ c .bits-for .result ≤ 256
+unfolding attrAt
+room c =
+    let l = c .before .before .loop in
+    let a = c .before .before .before .before .before .before .before .args in
+    partly-room (a .s .now) (a .class) (a .at) (l .p) (l .v) (l .i) (c .bits-for .result) (omega arith) (l .inv .2) (c .bits-for .ensures)
+
+cast-i-end : tie.Need-cast-i-end Inv-loop μ-loop
+cast-i-end c = search needs
+
+loop-holds : tie.Need-loop-holds Inv-loop μ-loop
+loop-holds c =
+    let k = c .before .before .before .before in
+    (search needs, omega (arith, k .pre .1 .count), partly-none (k .args .s .now) (k .args .class) (k .args .at) (k .pre .1 .wide))
+
+array-read-kind : tie.Need-array-read-kind Inv-loop μ-loop
+array-read-kind c = search needs
+
+array-read-size : tie.Need-array-read-size Inv-loop μ-loop
+array-read-size c = search needs
+
+bits-for-requires : tie.Need-bits-for-requires Inv-loop μ-loop
+bits-for-requires c κs = search needs
+
+cast-take : tie.Need-cast-take Inv-loop μ-loop
+cast-take c = search needs
+
+take-requires : tie.Need-take-requires Inv-loop μ-loop
+take-requires c κs = (omega (arith, narrow c), omega (arith, c .before .before .loop .inv .2 .place))
+
+code-ok-requires : tie.Need-code-ok-requires Inv-loop μ-loop
+code-ok-requires c κs = search needs
+
+judged-requires : tie.Need-judged-requires Inv-loop μ-loop
+judged-requires c κs = search needs
+
+cast-v : tie.Need-cast-v Inv-loop μ-loop
+cast-v c = search needs
+
+shl-v : tie.Need-shl-v Inv-loop μ-loop
+shl-v c = omega (arith, narrow (c .before .before .before))
+
+add-v : tie.Need-add-v Inv-loop μ-loop
+add-v c = omega (arith, room (c .before .before .before), c .before .before .take .ensures .1 .fits)
+
+add-i : tie.Need-add-i Inv-loop μ-loop
+add-i c = search needs
+
+loop-less : tie.Need-loop-less Inv-loop μ-loop
+loop-less c = search needs
+
+loop-again : tie.Need-loop-again Inv-loop μ-loop
+unfolding attrAt
+loop-again c =
+    let o = c .before .code-ok in
+    let t = c .before .before .take in
+    let b = c .before .before .before in
+    let l = b .before .before .loop in
+    let a = b .before .before .before .before .before .before .before .args in
+    let w = b .bits-for .result in
+    let exact : l .v * 2 ^ w % 18446744073709551616 ≡ l .v * 2 ^ w = mod-eq-of-lt (omega (arith, room b)) in (
+      search needs,
+      search needs,
+      rw (c .judged .ensures, exact)
+          (partly-more (a .s .now) (a .class) (a .at) (l .p) (l .v) (l .i) w (omega arith) (l .inv .2) (b .bits-for .ensures) (t .result .at) (t .result .value) (o .result)
+          (t .ensures .0) (t .ensures .1 .fits) (t .ensures .1 .place) (o .ensures)),
+    )
+
+take-requires-2 : tie.Need-take-requires-2 Inv-loop μ-loop
+take-requires-2 c κs = (omega arith, omega (arith, c .before .loop .inv .2 .place))
+
+returns : tie.Need-returns Inv-loop μ-loop
+returns c =
+    let t = c .before .take2 in
+    let l = c .before .before .before .loop in
+    let a = c .before .before .before .before .before .before .before .before .args in (
+      partly-all (a .s .now) (a .class) (a .at) (l .p) (l .v) (l .i) (omega arith) (l .inv .2) (t .result .at) (t .result .value) (t .ensures .0) (t .ensures .1 .fits),
+      (omega (arith, t .ensures .1 .place, l .inv .2 .place), partly-below (a .s .now) (a .class) (a .at) (l .p) (l .v) (l .i) (omega arith) (l .inv .2)),
+    )
+
+pub read-value-spec : {M : Type 1} → statement M
+read-value-spec =
+    tie.close
+    (tie.spec
+    Inv-loop
+    μ-loop
+    cast-i-end
+    loop-holds
+    array-read-kind
+    array-read-size
+    bits-for-requires
+    cast-take
+    take-requires
+    code-ok-requires
+    judged-requires
+    cast-v
+    shl-v
+    add-v
+    add-i
+    loop-less
+    loop-again
+    take-requires-2
+    returns)

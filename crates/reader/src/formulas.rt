@@ -1,0 +1,64 @@
+// The formulas.
+ghost use mathlib.Core.Path.{_≡_};
+ghost use Prim.Native.Nat.{_+_, _^_, _≤_, _<_};
+ghost use lib.ListN.{length};
+ghost use Rattle.format.specs.Format.{Format, field, rows};
+ghost use Rattle.format.specs.Steps.{from, resOf};
+ghost use Rattle.policy.specs.Nodes.{nodeOk};
+ghost use Rattle.policy.specs.File.{formulaFormat};
+ghost use Rattle.policy.specs.Rules.{listsOf, nodesOf, formulasOf};
+ghost use Rattle.reader.specs.Parts.{Earlier};
+use super::FormulasRead;
+use format::Cursor;
+use format::judged;
+use format::read_field;
+use format::take;
+use policy::Classes;
+use policy::nodes::node_ok;
+
+// The n nodes of formula f, stored at its places.
+fn read_nodes(
+    s: &[u8],
+    at: Cursor,
+    classes: Classes,
+    f: usize,
+    n: usize,
+    nodes: &mut [u32],
+) -> Cursor
+    requires { ⌜ (n ≤ 64) × (f < 12) × (length (now nodes) ≡ 768) × (at .pos < 2 ^ 37) ⌝ }
+    ensures { λ r. ⌜ resOf r (nodesOf (now (nodes .exit)) f n) ≡ from at (rows n (λ l. field 20 (nodeOk (listsOf classes) f (length l)) 8) .read (now (s .entry))) ⌝ }
+    ensures { λ r. ⌜ Earlier (now (nodes .entry)) (now (nodes .exit)) f ⌝ }
+    ensures { λ r. ⌜ r .pos ≤ at .pos + 1280 ⌝ }
+{
+    let mut p = at;
+    for i in 0..n {
+        let t = take(s, p, 20);
+        let x = t.value as u32;
+        let next = judged(t.at, node_ok(classes, f, i, x), 8);
+        nodes[64 * f + i] = x;
+        p = next;
+    }
+    p
+}
+
+// The formulas: four, and one for each permission.
+pub(super) fn read_formulas(s: &[u8], at: Cursor, classes: Classes, permissions: u8) -> FormulasRead
+    requires { ⌜ (permissions ≤ 8) × (at .pos < 2 ^ 36) ⌝ }
+    ensures { λ r. ⌜ resOf (r .at) (formulasOf (r .nodes) (r .lengths) (4 + permissions)) ≡ from at (rows (4 + permissions) (λ l. formulaFormat (listsOf classes) (length l)) .read (now (s .entry))) ⌝ }
+    ensures { λ r. ⌜ r .at .pos ≤ at .pos + 15456 ⌝ }
+{
+    let mut lengths: [u8; 12] = [0; 12];
+    let mut nodes: [u32; 768] = [0; 768];
+    let mut p = at;
+    for f in 0..4 + permissions as usize {
+        let n = read_field(s, p, 8, 1, 65, 8);
+        let next = read_nodes(s, n.at, classes, f, n.value as usize, &mut nodes);
+        lengths[f] = n.value as u8;
+        p = next;
+    }
+    FormulasRead {
+        at: p,
+        lengths,
+        nodes,
+    }
+}

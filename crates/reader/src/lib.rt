@@ -1,0 +1,119 @@
+// Reading rules, part by part in the file's order. Each part takes a cursor and gives the one after it; once a number was given, every
+// later part leaves the cursor as it is.
+ghost use mathlib.Core.Path.{_≡_};
+ghost use Prim.Native.Nat.{_+_, _^_, _≤_, _<_};
+ghost use Rattle.format.specs.Format.{Format};
+ghost use Rattle.format.specs.Steps.{from, resOf};
+ghost use Rattle.policy.specs.File.{policyFormat};
+ghost use Rattle.policy.specs.Rules.{policyOf};
+
+mod formulas;
+mod head;
+mod lists;
+mod values;
+
+use format::Cursor;
+use formulas::read_formulas;
+use head::read_counts;
+use lists::read_classes;
+use policy::Class;
+use policy::Classes;
+use policy::Rules;
+use policy::Sessions;
+use policy::Values;
+use values::read_sessions;
+use values::read_values;
+
+// The head's counts as they were read; each within its range, also where a number was given.
+pub struct Counts {
+    pub at: Cursor,
+    pub user: u8,
+    pub session: u8,
+    pub item: u8,
+    pub users: u8,
+    pub sessions: u8,
+    pub items: u8,
+    pub permissions: u8,
+}
+
+// An attribute as it was read.
+pub struct Attribute {
+    pub at: Cursor,
+    pub kind: u8,
+    pub size: u8,
+}
+
+// The attributes of a class as they were read; none where a number was given.
+pub struct ClassRead {
+    pub at: Cursor,
+    pub class: Class,
+}
+
+// The attributes of the three classes as they were read.
+pub struct ClassesRead {
+    pub at: Cursor,
+    pub classes: Classes,
+}
+
+// Holders' values as they were read.
+pub struct ValuesRead {
+    pub at: Cursor,
+    pub values: Values,
+}
+
+// A starting session as it was read.
+pub struct SessionRead {
+    pub at: Cursor,
+    pub user: u8,
+    pub value: u8,
+}
+
+// The starting sessions as they were read.
+pub struct SessionsRead {
+    pub at: Cursor,
+    pub sessions: Sessions,
+}
+
+// The formulas as they were read.
+pub struct FormulasRead {
+    pub at: Cursor,
+    pub lengths: [u8; 12],
+    pub nodes: [u32; 768],
+}
+
+// Rules as they were read.
+pub struct RulesRead {
+    pub at: Cursor,
+    pub rules: Rules,
+}
+
+// The whole file up to its filling bits.
+pub fn read_policy(s: &[u8], at: Cursor) -> RulesRead
+    requires { ⌜ at .pos < 2 ^ 30 ⌝ }
+    ensures { λ r. ⌜ resOf (r .at) (policyOf (r .rules)) ≡ from at (policyFormat .read (now (s .entry))) ⌝ }
+    ensures { λ r. ⌜ r .at .pos ≤ at .pos + 16680 ⌝ }
+{
+    let h = read_counts(s, at);
+    let c = read_classes(s, h.at, h);
+    let classes = c.classes;
+    let u = read_values(s, c.at, classes.user, h.users);
+    let t = read_sessions(s, u.at, classes.session, h.users, h.sessions);
+    let i = read_values(s, t.at, classes.item, h.items);
+    let f = read_formulas(s, i.at, classes, h.permissions);
+    let next = f.at;
+    let users = u.values;
+    let sessions = t.sessions;
+    let items = i.values;
+    let lengths = f.lengths;
+    let nodes = f.nodes;
+    let rules = Rules {
+        classes,
+        users,
+        sessions,
+        items,
+        permissions: h.permissions,
+        lengths,
+        nodes,
+    };
+    RulesRead { at: next, rules }
+}

@@ -1,0 +1,114 @@
+// The attributes of the three classes of holders.
+ghost use mathlib.Core.Path.{_≡_};
+ghost use Prim.Native.Nat.{_+_, _^_, _≤_, _<_};
+ghost use Rattle.format.specs.Format.{Format, rows};
+ghost use Rattle.format.specs.Steps.{from, resOf};
+ghost use Rattle.policy.specs.File.{largest as largestOf, attrFormat, classFormat, listsFormat};
+ghost use Rattle.policy.specs.Rules.{attrsOf, listsOf};
+ghost use Rattle.reader.specs.Parts.{headOf, attrOf, Ranges, Narrow, AllNarrow};
+use super::Attribute;
+use super::ClassRead;
+use super::ClassesRead;
+use super::Counts;
+use format::Cursor;
+use format::judged;
+use format::read_field;
+use policy::Class;
+use policy::Classes;
+use policy::shape::class_width;
+
+// The greatest size of an attribute of a kind.
+fn largest(kind: u64) -> u64
+    ensures { λ r. ⌜ r ≡ largestOf kind ⌝ }
+    ensures { λ r. ⌜ r ≤ 16 ⌝ }
+{
+    if kind == 0 { 16 } else { 8 }
+}
+
+// An attribute.
+fn read_attr(s: &[u8], at: Cursor) -> Attribute
+    requires { ⌜ at .pos < 2 ^ 39 ⌝ }
+    ensures { λ r. ⌜ resOf (r .at) (attrOf r) ≡ from at (attrFormat .read (now (s .entry))) ⌝ }
+    ensures { λ r. ⌜ r .at .pos ≤ at .pos + 12 ⌝ }
+{
+    let k = read_field(s, at, 1, 0, 2, 4);
+    let end = largest(k.value) + 1;
+    let n = read_field(s, k.at, 5, 1, end, 4);
+    let z = read_field(s, n.at, 6, 0, 1, 3);
+    let next = z.at;
+    Attribute {
+        at: next,
+        kind: k.value as u8,
+        size: n.value as u8,
+    }
+}
+
+// The n attributes of a class, however wide.
+fn read_attrs(s: &[u8], at: Cursor, n: u8) -> ClassRead
+    requires { ⌜ (n ≤ 8) × (at .pos < 2 ^ 38) ⌝ }
+    ensures { λ r. ⌜ resOf (r .at) (attrsOf (r .class)) ≡ from at (rows n (λ _. attrFormat) .read (now (s .entry))) ⌝ }
+    ensures { λ r. ⌜ (r .at .pos ≤ at .pos + 96) × (r .class .count ≡ n) ⌝ }
+{
+    let mut kinds: [u8; 8] = [0; 8];
+    let mut sizes: [u8; 8] = [0; 8];
+    let mut p = at;
+    for i in 0..n as usize {
+        let a = read_attr(s, p);
+        kinds[i] = a.kind;
+        sizes[i] = a.size;
+        let next = a.at;
+        p = next;
+    }
+    let class = Class {
+        count: n,
+        kinds,
+        sizes,
+    };
+    ClassRead { at: p, class }
+}
+
+// The n attributes of a class, at most 8 bits wide; none where a number was given.
+fn read_class(s: &[u8], at: Cursor, n: u8) -> ClassRead
+    requires { ⌜ (n ≤ 8) × (at .pos < 2 ^ 38) ⌝ }
+    ensures { λ r. ⌜ resOf (r .at) (attrsOf (r .class)) ≡ from at (classFormat n .read (now (s .entry))) ⌝ }
+    ensures { λ r. ⌜ Narrow (r .class) ⌝ }
+    ensures { λ r. ⌜ r .at .pos ≤ at .pos + 96 ⌝ }
+{
+    let r = read_attrs(s, at, n);
+    let class = r.class;
+    let next = judged(r.at, class_width(class) <= 8, 5);
+    if next.number != 0 {
+        let none = Class {
+            count: 0,
+            kinds: [0; 8],
+            sizes: [0; 8],
+        };
+        return ClassRead {
+            at: next,
+            class: none,
+        };
+    }
+    ClassRead { at: next, class }
+}
+
+// The attributes of all three classes, as many as the head says.
+pub(super) fn read_classes(s: &[u8], at: Cursor, h: Counts) -> ClassesRead
+    requires { ⌜ Ranges h × (at .pos < 2 ^ 37) ⌝ }
+    ensures { λ r. ⌜ resOf (r .at) (listsOf (r .classes)) ≡ from at (listsFormat (headOf h) .read (now (s .entry))) ⌝ }
+    ensures { λ r. ⌜ AllNarrow (r .classes) ⌝ }
+    ensures { λ r. ⌜ r .at .pos ≤ at .pos + 288 ⌝ }
+{
+    let u = read_class(s, at, h.user);
+    let t = read_class(s, u.at, h.session);
+    let i = read_class(s, t.at, h.item);
+    let user = u.class;
+    let session = t.class;
+    let item = i.class;
+    let classes = Classes {
+        user,
+        session,
+        item,
+    };
+    let next = i.at;
+    ClassesRead { at: next, classes }
+}

@@ -1,0 +1,61 @@
+-- `rules::read_rules` meets its contract: the parts, the filling bits and the end are the file's format (chain-file), and its last cursor
+-- tells the answer. Assumes nothing.
+use mathlib.Core.Path.{_≡_, refl, sym, ap, _∙_}
+use native.Mathlib.Omega.{arith}
+use Rattle.format.specs.Format.{readFile}
+use Rattle.format.specs.Steps.{resOf, judged}
+use Rattle.format.specs.declared.Cursor.{Cursor}
+use Rattle.format.proofs.Chain.{chain-file}
+use Rattle.policy.specs.File.{policyFormat}
+use Rattle.policy.specs.Rules.{policyOf}
+use Rattle.rules.specs.Answers.{answerOf, beside}
+use Rattle.rules.proofs.Laws.{ends-refused, ends-read}
+use borrow.Author.Needs.{needs}
+use Rattle.rules.proofs.read_rules.Statement.{statement}
+use Rattle.rules.proofs.read_rules.Tie as tie
+
+read-policy-requires : tie.Need-read-policy-requires
+read-policy-requires c κs = search needs
+
+sub-read-field : tie.Need-sub-read-field
+sub-read-field c = search needs
+
+read-field-requires : tie.Need-read-field-requires
+read-field-requires c κs = search needs
+
+at-end-requires : tie.Need-at-end-requires
+at-end-requires c κs = search needs
+
+judged-requires : tie.Need-judged-requires
+judged-requires c κs = search needs
+
+no-rules-requires : tie.Need-no-rules-requires
+no-rules-requires c κs = search needs
+
+-- what the last cursor stands for is what the file reads as
+ended : (c : tie.After-judged) → resOf (c .judged .result) (policyOf (c .before .before .before .before .before .before .read-policy .result .rules)) ≡ readFile policyFormat (c .before .before .before .before .before .before .before .before .args .file .now)
+ended c =
+    let p = c .before .before .before .before .before .before in
+    ap (λ (x : Cursor). resOf x (policyOf (p .read-policy .result .rules))) (c .judged .ensures)
+    ∙ chain-file policyFormat (p .before .before .args .file .now) _ _ _ _ _ _ refl refl (p .read-policy .ensures .0) (c .before .before .before .read-field .ensures .0) (c .before .at-end .ensures)
+
+returns : tie.Need-returns
+unfolding answerOf beside
+returns c = (sym (ends-refused _ _ _ (ended (c .before .before .before)) (omega arith)), c .no-rules .ensures)
+
+returns-2 : tie.Need-returns-2
+unfolding answerOf beside
+returns-2 c = (sym (ends-read _ _ _ (ended (c .before .before .before)) (c .before .if1 .left)), refl)
+
+pub read-rules-spec : {M : Type 1} → statement M
+read-rules-spec =
+    tie.close
+    (tie.spec
+    read-policy-requires
+    sub-read-field
+    read-field-requires
+    at-end-requires
+    judged-requires
+    no-rules-requires
+    returns
+    returns-2)

@@ -1,0 +1,33 @@
+-- What is proved of reading and writing, each claim under the words that it answers. The proofs are in proofs/Theorems.antt.
+-- Assumes nothing.
+use mathlib.Core.Path.{_≡_}
+use mathlib.Core.List.{List}
+use Prim.Native.Nat.{ℕ, _^_, _≤_, _<_}
+use lib.ListN.{getD}
+use Rattle.bits.specs.Packed.{packed}
+use Rattle.format.specs.Format.{Fit, refused, bytes}
+use Rattle.policy.specs.Policy.{Policy, fewestBits}
+use Rattle.policy.specs.File.{policyFormat}
+use Rattle.rules.specs.Answers.{Answer, refusal, rules, reading, writing}
+
+-- every element is a byte
+abbrev pub Bytes : List ℕ → Type 0
+Bytes s = (k : ℕ) → getD s k 0 < 256
+
+-- demand 2: a rule file read and written back has the same bytes
+abbrev pub BytesAgain : Type 0
+BytesAgain = (s : List ℕ) (p : Policy) → Bytes s → reading s ≡ rules p → writing p ≡ bytes s
+
+-- demand 2: rules within the limits, written and read, are the same rules
+abbrev pub RulesAgain : Type 0
+RulesAgain = (p : Policy) (s : List ℕ) → writing p ≡ bytes s → reading s ≡ rules p
+
+-- [01:The rule file, "rules that no file can hold get the number that reading them would"]: where every number fits its bits, so that
+-- there are bytes to read, reading them gives that number. (A number that does not fit its bits is refused by its field's own number.
+-- Number 0, which is no refusal, is that of a list that is not as long as its count; rules in memory have no such list.)
+abbrev pub WritingRefusesAsReading : Type 0
+WritingRefusesAsReading = (p : Policy) (n : ℕ) → writing p ≡ refused n → 0 < n → Fit (policyFormat .fields p) → reading (packed (policyFormat .fields p)) ≡ refusal n
+
+-- [01:The rule file, "the fewest bits w with 2^w at least n"], for every size together
+abbrev pub SizeTakesFewestBits : Type 0
+SizeTakesFewestBits = (n : ℕ) → (n ≤ 2 ^ fewestBits n) × ((w : ℕ) → n ≤ 2 ^ w → fewestBits n ≤ w)

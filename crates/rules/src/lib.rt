@@ -1,0 +1,74 @@
+// Rule files: rules are read from bytes, or refused by their first number; and rules are written to bytes, or refused by the number
+// that reading them would give.
+ghost use mathlib.Core.Path.{_≡_};
+ghost use Prim.Native.Nat.{_*_, _^_, _<_};
+ghost use lib.Dec.{eqb};
+ghost use lib.ListN.{length};
+ghost use Rattle.policy.specs.Rules.{policyOf};
+ghost use Rattle.rules.specs.Answers.{answerOf, reading, beside, noRules, writing, writtenOf, filled};
+use format::{Cursor, judged, read_field};
+use policy::{Class, Classes, Values, Sessions, Rules};
+
+// What reading a file found: rules, or the number that is given instead.
+pub enum Reading {
+    Accepted,
+    Refused(u8),
+}
+
+// The answer, and the rules beside it: those of the file, or where a number is given those of no file.
+pub struct Parsed {
+    pub answer: Reading,
+    pub rules: Rules,
+}
+
+// What writing did: filled so many bytes, or nothing, for the number given.
+pub enum Written {
+    Length(usize),
+    Refused(u8),
+}
+
+// The rules of no file: every count and every place is 0.
+fn no_rules() -> Rules
+    ensures { λ r. ⌜ r ≡ noRules ⌝ }
+{
+    let none = Class { count: 0, kinds: [0; 8], sizes: [0; 8] };
+    let empty = Values { count: 0, values: [0; 32] };
+    let classes = Classes { user: none, session: none, item: none };
+    let sessions = Sessions { count: 0, users: [0; 32], values: [0; 32] };
+    Rules {
+        classes,
+        users: empty,
+        sessions,
+        items: empty,
+        permissions: 0,
+        lengths: [0; 12],
+        nodes: [0; 768],
+    }
+}
+
+// Whether pos is the end of the bits.
+fn at_end(s: &[u8], pos: usize) -> bool
+    ensures { λ r. ⌜ r ≡ eqb pos (8 * length (now (s .entry))) ⌝ }
+{
+    if pos % 8 == 0 { pos / 8 == s.len() } else { false }
+}
+
+// Reads a file: its rules, or the first number 1 to 8 and the rules of no file. The file is read once, field by field.
+pub fn read_rules(file: &[u8]) -> Parsed
+    ensures { λ r. ⌜ answerOf (r .answer) (policyOf (r .rules)) ≡ reading (now (file .entry)) ⌝ }
+    ensures { λ r. ⌜ r .rules ≡ beside (r .answer) (r .rules) ⌝ }
+{
+    let start = Cursor { number: 0, pos: 0 };
+    let r = reader::read_policy(file, start);
+    let at = r.at;
+    let fill = read_field(file, at, (8 - at.pos % 8) % 8, 0, 1, 3);
+    let next = fill.at;
+    let end = judged(next, at_end(file, next.pos), 3);
+    if end.number != 0 {
+        let none = no_rules();
+        return Parsed { answer: Reading::Refused(end.number), rules: none };
+    }
+    let rules = r.rules;
+    Parsed { answer: Reading::Accepted, rules }
+}
+

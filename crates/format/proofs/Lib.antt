@@ -4,3 +4,4 @@ pub mod Store  -- functions that judge and store step by step
 pub mod Holds  -- fields in bytes
 pub mod Law  -- lawful formats, and each way of building one
 pub mod Round  -- whole files: read, written, refused
+pub mod Gives  -- which numbers judging can give

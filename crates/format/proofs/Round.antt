@@ -27,14 +27,14 @@ zero-bits w i h = bitOf-in w 0 [] i h ∙ nothing (w - 1 - i)
 abbrev fill : ℕ → ℕ
 fill q = (8 - q % 8) % 8
 
-zero-judged : (w : ℕ) → field w (eqb 0) 3 .judge 0 ≡ none
+pub zero-judged : (w n : ℕ) → field w (eqb 0) n .judge 0 ≡ none
 unfolding field
-zero-judged w = none-first _ _ (none-unless (ltb 0 (2 ^ w)) 3 (lt-ltb 0 (2 ^ w) (pow-pos w))) (none-unless (eqb 0 0) 3 refl)
+zero-judged w n = none-first _ _ (none-unless (ltb 0 (2 ^ w)) n (lt-ltb 0 (2 ^ w) (pow-pos w))) (none-unless (eqb 0 0) n refl)
 
 fill-read : (s : List ℕ) (q : ℕ) → q + fill q ≤ 8 * length s → ((i : ℕ) → i < fill q → bitAt s (q + i) ≡ 0) → field (fill q) (eqb 0) 3 .read s q ≡ ok 0 (q + fill q)
 unfolding field widths
 fill-read s q h z =
-    lawful-field (fill q) (eqb 0) 3 .there 0 s q (zero-judged (fill q))
+    lawful-field (fill q) (eqb 0) 3 .there 0 s q (zero-judged (fill q) 3)
     record { ends = omega arith; has = bits-has s q ((fill q, 0) ∷ []) (λ i l. z i (omega arith) ∙ sym (zero-bits (fill q) i (omega arith))) }
     ∙ ap (ok 0) (omega arith)
 
@@ -109,3 +109,8 @@ module _ {A : Type 0} (f : Format A) (law : Lawful f) where
   write-refused a n e z h =
       let s = packed (f .fields a) in
       bad-then (f .read s 0) _ n (law .refuse a n s 0 (judged-refused (f .judge a) s n e) z h (packed-holds (f .fields a)))
+
+-- a number that writing gives is one that judging gives
+pub refused-judged : {A : Type 0} (f : Format A) (a : A) (n : ℕ) → writeFile f a ≡ refused n → f .judge a ≡ some n
+unfolding writeFile
+refused-judged f a n e = judged-refused (f .judge a) (packed (f .fields a)) n e

@@ -3,6 +3,7 @@ ghost use mathlib.Core.Path.{_≡_};
 ghost use Prim.Native.Nat.{_*_, _≤_};
 ghost use lib.ListN.{getD};
 ghost use Rattle.format.specs.Format.{within as withinOf};
+ghost use Rattle.policy.specs.File.{largest as largestOf};
 ghost use Rattle.policy.specs.Policy.{Attr, fewestBits, bitsFor, codes, width};
 ghost use Rattle.policy.specs.Rules.{attrsOf};
 use super::Class;
@@ -12,6 +13,14 @@ pub fn byte_at(s: &[u8], k: usize) -> u8
     ensures { λ r. ⌜ r ≡ getD (now (s .entry)) k 0 ⌝ }
 {
     if k < s.len() { s[k] } else { 0 }
+}
+
+// The greatest size of an attribute of a kind.
+pub fn largest(kind: u64) -> u64
+    ensures { λ r. ⌜ r ≡ largestOf kind ⌝ }
+    ensures { λ r. ⌜ r ≤ 16 ⌝ }
+{
+    if kind == 0 { 16 } else { 8 }
 }
 
 // The fewest bits w with 2 ^ w at least n.

@@ -21,15 +21,15 @@ use Rattle.reader.specs.Parts.{headOf}
 use Rattle.reader.specs.declared.Counts.{Counts}
 
 -- every value that the format reads is such
-pub record Only {A : Type 0} (f : Format A) (P : A → Type 0) : Type 0 where
-  pub has : (s : List ℕ) (pos : ℕ) (a : A) (q : ℕ) → f .read s pos ≡ ok a q → P a
+record Only {A : Type 0} (f : Format A) (P : A → Type 0) : Type 0 where
+  has : (s : List ℕ) (pos : ℕ) (a : A) (q : ℕ) → f .read s pos ≡ ok a q → P a
 
 same-value : {A : Type 0} (a b : A) (p q : ℕ) → ok a p ≡ ok b q → a ≡ b
 same-value a b p q e = cc
 
 module _ {A : Type 0} where
   -- at a cursor without a number
-  pub only-good : (f : Format A) (P : A → Type 0) (s : List ℕ) (c₀ c : Cursor) (a : A) → Only f P → resOf c a ≡ from c₀ (f .read s) → c .number ≡ 0 → P a
+  only-good : (f : Format A) (P : A → Type 0) (s : List ℕ) (c₀ c : Cursor) (a : A) → Only f P → resOf c a ≡ from c₀ (f .read s) → c .number ≡ 0 → P a
   only-good f P s c₀ c a o e z = go (decLt 0 (c₀ .number))
     where
       go : Dec (0 < c₀ .number) → P a
@@ -84,10 +84,10 @@ module _ {A B : Type 0} where
       }
 
 -- the lists are as long as the head says
-pub record Long (h : Head) (c : Lists) : Type 0 where
-  pub user : length (c .ofUser) ≡ h .userAttrs
-  pub session : length (c .ofSession) ≡ h .sessionAttrs
-  pub item : length (c .ofItem) ≡ h .itemAttrs
+record Long (h : Head) (c : Lists) : Type 0 where
+  user : length (c .ofUser) ≡ h .userAttrs
+  session : length (c .ofSession) ≡ h .sessionAttrs
+  item : length (c .ofItem) ≡ h .itemAttrs
 
 only-class : (n : ℕ) → Only (classFormat n) (λ l. length l ≡ n)
 unfolding classFormat

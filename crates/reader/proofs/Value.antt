@@ -1,4 +1,5 @@
--- A holder's value that was read so far, attribute by attribute. In order: the attributes that are left, no value is read, one more, all of them.
+-- A holder's value that was read so far, attribute by attribute. In order: the attributes that are left, what is
+-- known of the value so far, numbers side by side, and the value when none of its parts is read, one more, all of them.
 use mathlib.Core.Path.{_≡_, refl, sym, ap, subst, _∙_}
 use mathlib.Core.Bool.{Bool, true}
 use mathlib.Core.List.{List, [], _∷_}
@@ -13,12 +14,11 @@ use Rattle.format.specs.Format.{Format, taken, field, within}
 use Rattle.format.specs.Steps.{from, resOf, judged}
 use Rattle.format.specs.declared.Cursor.{Cursor}
 use Rattle.format.proofs.Chain.{chain-pair, chain-via, chain-field}
-use Rattle.format.proofs.Fault.{judged-holds}
+use Rattle.format.proofs.Fault.{judged-holds, judged-pos}
 use Rattle.policy.specs.Policy.{Attr, bitsFor, codes, width}
 use Rattle.policy.specs.File.{valueFormat}
 use Rattle.policy.specs.Rules.{attrAt, attrsOf}
 use Rattle.policy.specs.declared.Class.{Class}
-use Rattle.format.proofs.Fault.{judged-pos}
 
 -- the attributes of a class from number i on
 unfoldable pub rest : Class → ℕ → List Attr
@@ -28,7 +28,7 @@ rest-all : (c : Class) → rest c 0 ≡ attrsOf c
 unfolding rest attrsOf
 rest-all c = ap (tab (attrAt c) 0) (let z : c .count - 0 ≡ c .count = omega arith in z)
 
-pub rest-next : (c : Class) (i : ℕ) → i < c .count → rest c i ≡ attrAt c i ∷ rest c (i + 1)
+rest-next : (c : Class) (i : ℕ) → i < c .count → rest c i ≡ attrAt c i ∷ rest c (i + 1)
 unfolding rest
 rest-next c i h =
     ap (tab (attrAt c) i) (let z : c .count - i ≡ suc (c .count - (i + 1)) = omega arith in z) ∙ tab-first (attrAt c) i (c .count - (i + 1))
@@ -38,7 +38,7 @@ rest-none : (c : Class) (i : ℕ) → c .count ≤ i → rest c i ≡ []
 unfolding rest
 rest-none c i h = ap (tab (attrAt c) i) (let z : c .count - i ≡ 0 = omega arith in z) ∙ tab-zero (attrAt c) i
 
-pub width-next : (c : Class) (i : ℕ) → i < c .count → width (rest c i) ≡ bitsFor (attrAt c i) + width (rest c (i + 1))
+width-next : (c : Class) (i : ℕ) → i < c .count → width (rest c i) ≡ bitsFor (attrAt c i) + width (rest c (i + 1))
 unfolding width
 width-next c i h = ap width (rest-next c i h)
 
@@ -88,11 +88,10 @@ module _ (s : List ℕ) (c : Class) (at : Cursor) where
     next-fits : v * (2 ^ w * 2 ^ width (rest c (i + 1))) + 2 ^ w * 2 ^ width (rest c (i + 1)) ≤ 256
     next-fits = subst (λ (z : ℕ). v * z + z ≤ 256) next-power (r .fits)
 
-    pub partly-narrow : w ≤ 8
-    partly-narrow = omega (arith, next-width, r .wide)
-
-    pub partly-room : v * 2 ^ w + 2 ^ w ≤ 256
-    partly-room = side-room v (2 ^ w) (2 ^ width (rest c (i + 1))) (pow-pos (width (rest c (i + 1)))) next-fits
+    -- there is room for one more of w bits
+    pub partly-room : (w ≤ 8) × (v * 2 ^ w + 2 ^ w ≤ 256)
+    partly-room =
+        (omega (arith, next-width, r .wide), side-room v (2 ^ w) (2 ^ width (rest c (i + 1))) (pow-pos (width (rest c (i + 1)))) next-fits)
 
     pub partly-more : (t : Cursor) (x : ℕ) (b : Bool) → resOf t x ≡ from p (λ q. taken s q w) → x < 2 ^ w → t .pos ≤ p .pos + w
         → b ≡ within 0 (codes (attrAt c i)) x → Partly s c at (judged t b 6) (v * 2 ^ w + x) (i + 1)

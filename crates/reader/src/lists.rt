@@ -3,7 +3,7 @@ ghost use mathlib.Core.Path.{_≡_};
 ghost use Prim.Native.Nat.{_+_, _^_, _≤_, _<_};
 ghost use Rattle.format.specs.Format.{Format, rows};
 ghost use Rattle.format.specs.Steps.{from, resOf};
-ghost use Rattle.policy.specs.File.{largest as largestOf, attrFormat, classFormat, listsFormat};
+ghost use Rattle.policy.specs.File.{attrFormat, classFormat, listsFormat};
 ghost use Rattle.policy.specs.Rules.{attrsOf, listsOf};
 ghost use Rattle.reader.specs.Parts.{headOf, attrOf, Ranges, Narrow, AllNarrow};
 use super::Attribute;
@@ -16,14 +16,7 @@ use format::read_field;
 use policy::Class;
 use policy::Classes;
 use policy::shape::class_width;
-
-// The greatest size of an attribute of a kind.
-fn largest(kind: u64) -> u64
-    ensures { λ r. ⌜ r ≡ largestOf kind ⌝ }
-    ensures { λ r. ⌜ r ≤ 16 ⌝ }
-{
-    if kind == 0 { 16 } else { 8 }
-}
+use policy::shape::largest;
 
 // An attribute.
 fn read_attr(s: &[u8], at: Cursor) -> Attribute

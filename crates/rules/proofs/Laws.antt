@@ -1,6 +1,7 @@
--- Laws of the answers. In order: an answer to reading and the result behind it, what a cursor's end means, writing.
+-- Laws of the answers. In order: an answer to reading and the result behind it, the last cursor, the end of the bytes, what writing
+-- answers and leaves.
 use mathlib.Core.Path.{_≡_, refl, sym, ap, _∙_}
-use mathlib.Core.List.{List, _++_}
+use mathlib.Core.List.{List, [], _∷_, _++_}
 use Prim.Native.Nat.{ℕ, _*_, _/_, _%_, _≤_, _<_}
 use native.Mathlib.Decide.{ℕ-discrete}
 use native.Mathlib.Omega.{arith}
@@ -8,13 +9,14 @@ use borrow.Author.Tests.{le-leb, lt-leb, eq-eqb, ne-eqb}
 use lib.Dec.{eqb}
 use lib.ListN.{length, drop}
 use Rattle.format.specs.Format.{Res, ok, bad, Bytes, refused, bytes, readFile, writeFile}
-use Rattle.format.specs.Steps.{resOf}
+use Rattle.format.specs.Steps.{resOf, Stores}
 use Rattle.format.specs.declared.Cursor.{Cursor}
-use Rattle.format.proofs.Fault.{BadAt}
+use Rattle.format.proofs.Fault.{BadAt, fault-none, none-fault}
 use Rattle.format.proofs.Chain.{res-good, res-bad}
 use Rattle.policy.specs.Policy.{Policy}
 use Rattle.policy.specs.File.{policyFormat}
 use Rattle.rules.specs.Answers.{Answer, refusal, rules, answerOf, answered, reading, beside, noRules, writing, writtenOf, filled}
+use Rattle.rules.specs.declared.Reading.{Reading}
 use Rattle.rules.specs.declared.Reading.the-variants as Reading
 use Rattle.rules.specs.declared.Written.the-variants as Written
 
@@ -55,3 +57,47 @@ whole-bytes pos n z = go (ℕ-discrete pos (8 * n))
     go : Dec (pos ≡ 8 * n) → eqb (pos / 8) n ≡ eqb pos (8 * n)
     go (yes e) = let d : pos / 8 ≡ n = omega arith in eq-eqb (pos / 8) n d ∙ sym (eq-eqb pos (8 * n) e)
     go (no e) = ne-eqb (pos / 8) n (λ d. e (omega arith)) ∙ sym (ne-eqb pos (8 * n) e)
+
+-- no bytes at the front change nothing
+pub none-before : (l out : List ℕ) → length l ≡ 0 → l ++ out ≡ out
+none-before [] out z = refl
+none-before (x ∷ l) out z = absurd (omega arith)
+
+pub refused-written : (b : Bytes) (n room : ℕ) → b ≡ refused n → Written.Refused n ≡ writtenOf b room
+unfolding writtenOf
+refused-written b n room e = rw e refl
+
+pub refused-filled : (b : Bytes) (n : ℕ) (out : List ℕ) → b ≡ refused n → out ≡ filled b out
+unfolding filled
+refused-filled b n out e = rw e refl
+
+module _ (b : Bytes) (l : List ℕ) (e : b ≡ bytes l) where
+  pub short-written : (room : ℕ) → room < length l → Written.Refused 11 ≡ writtenOf b room
+  unfolding writtenOf
+  short-written room h = rw e (simp (lt-leb (length l) room h))
+
+  pub short-filled : (out : List ℕ) → length out < length l → out ≡ filled b out
+  unfolding filled
+  short-filled out h = rw e (simp (lt-leb (length l) (length out) h))
+
+  pub long-written : (n room : ℕ) → n ≡ length l → length l ≤ room → Written.Length n ≡ writtenOf b room
+  unfolding writtenOf
+  long-written n room d h = rw e (simp (d, le-leb (length l) room h))
+
+  pub long-filled : (out : List ℕ) → length l ≤ length out → l ++ drop (length l) out ≡ filled b out
+  unfolding filled
+  long-filled out h = rw e (simp (le-leb (length l) (length out) h))
+
+-- two passes over the same policy give the same number
+pub passes-agree : (p : Policy) {o o′ u u′ : List ℕ} {c₀ c₁ c₂ : Cursor} → Stores policyFormat p o o′ c₀ c₁ → Stores policyFormat p u u′ c₀ c₂ → c₁ .number ≡ 0 → c₂ .number ≡ 0
+passes-agree p {c₁ = c₁} {c₂ = c₂} g h z = none-fault (c₂ .number) (h .fault ∙ sym (g .fault) ∙ fault-none (c₁ .number) z)
+
+-- what a caller knows from the answer
+module _ (s : List ℕ) (a : Reading) (p : Policy) (e : answerOf a p ≡ reading s) where
+  pub was-accepted : a ≡ Reading.Accepted → reading s ≡ rules p
+  unfolding answerOf
+  was-accepted d = sym e ∙ ap (λ (x : Reading). answerOf x p) d
+
+  pub was-refused : (n : ℕ) → a ≡ Reading.Refused n → reading s ≡ refusal n
+  unfolding answerOf
+  was-refused n d = sym e ∙ ap (λ (x : Reading). answerOf x p) d

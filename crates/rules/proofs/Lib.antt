@@ -1,2 +1,2 @@
-pub mod Laws -- laws of the answers
-pub mod Theorems -- the claims, one line each
+pub mod Laws  -- laws of the answers
+pub mod Theorems  -- the claims, one line each

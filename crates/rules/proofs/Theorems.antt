@@ -1,10 +1,12 @@
 -- The claims of specs/Claims.antt, one line each: the laws behind them are proved once, for every lawful format.
 use mathlib.Core.Path.{sym, _∙_}
-use Rattle.format.proofs.Round.{write-read, read-write, write-refused}
+use Rattle.format.proofs.Round.{write-read, read-write, write-refused, refused-judged}
 use Rattle.policy.proofs.Laws.{fewest-enough, fewest-least}
+use Rattle.policy.proofs.Numbers.{gives-policy, given-above}
 use Rattle.policy.proofs.PolicyLaw.{lawful-policy}
 use Rattle.policy.specs.File.{policyFormat}
-use Rattle.rules.specs.Claims.{BytesAgain, RulesAgain, WritingRefusesAsReading, SizeTakesFewestBits}
+use Rattle.policy.specs.Rules.{policyOf}
+use Rattle.rules.specs.Claims.{BytesAgain, RulesAgain, WritingNumbers, WritingRefusesAsReading, SizeTakesFewestBits}
 use Rattle.rules.proofs.Laws.{reading-rules, rules-reading, refusal-reading, writing-is}
 
 pub bytes-again : BytesAgain
@@ -13,8 +15,11 @@ bytes-again s p b e = reading-rules s p e (λ q f. writing-is p ∙ read-write p
 pub rules-again : RulesAgain
 rules-again p s e = rules-reading s p _ (write-read policyFormat lawful-policy p s (sym (writing-is p) ∙ e))
 
+pub writing-numbers : WritingNumbers
+writing-numbers r n e = gives-policy r .only n (refused-judged policyFormat (policyOf r) n (sym (writing-is (policyOf r)) ∙ e))
+
 pub writing-refuses-as-reading : WritingRefusesAsReading
-writing-refuses-as-reading p n e z f = refusal-reading _ n (write-refused policyFormat lawful-policy p n (sym (writing-is p) ∙ e) z f)
+writing-refuses-as-reading r n e f = refusal-reading _ n (write-refused policyFormat lawful-policy (policyOf r) n (sym (writing-is (policyOf r)) ∙ e) (given-above (writing-numbers r n e)) f)
 
 pub size-takes-fewest-bits : SizeTakesFewestBits
 size-takes-fewest-bits n = (fewest-enough n, fewest-least n)

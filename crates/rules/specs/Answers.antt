@@ -50,7 +50,7 @@ noRules =
       items = empty;
       permissions = 0;
       lengths = replicate 12 0;
-      nodes = replicate 768 0
+      nodes = replicate 768 0;
     }
 
 -- the rules beside an answer: where a number is given they are those of no file

@@ -1,6 +1,7 @@
 -- What is proved of reading and writing, each claim under the words that it answers. The proofs are in proofs/Theorems.antt.
 -- Assumes nothing.
 use mathlib.Core.Path.{_≡_}
+use mathlib.Core.Logic.{_⊎_}
 use mathlib.Core.List.{List}
 use Prim.Native.Nat.{ℕ, _^_, _≤_, _<_}
 use lib.ListN.{getD}
@@ -8,6 +9,8 @@ use Rattle.bits.specs.Packed.{packed}
 use Rattle.format.specs.Format.{Fit, refused, bytes}
 use Rattle.policy.specs.Policy.{Policy, fewestBits}
 use Rattle.policy.specs.File.{policyFormat}
+use Rattle.policy.specs.Rules.{policyOf}
+use Rattle.policy.specs.declared.Rules.{Rules}
 use Rattle.rules.specs.Answers.{Answer, refusal, rules, reading, writing}
 
 -- every element is a byte
@@ -23,10 +26,14 @@ abbrev pub RulesAgain : Type 0
 RulesAgain = (p : Policy) (s : List ℕ) → writing p ≡ bytes s → reading s ≡ rules p
 
 -- [01:The rule file, "rules that no file can hold get the number that reading them would"]: where every number fits its bits, so that
--- there are bytes to read, reading them gives that number. (A number that does not fit its bits is refused by its field's own number.
--- Number 0, which is no refusal, is that of a list that is not as long as its count; rules in memory have no such list.)
+-- there are bytes to read, reading them gives that number. (A number that does not fit its bits is refused by its field's own number.)
 abbrev pub WritingRefusesAsReading : Type 0
-WritingRefusesAsReading = (p : Policy) (n : ℕ) → writing p ≡ refused n → 0 < n → Fit (policyFormat .fields p) → reading (packed (policyFormat .fields p)) ≡ refusal n
+WritingRefusesAsReading =
+    (r : Rules) (n : ℕ) → writing (policyOf r) ≡ refused n → Fit (policyFormat .fields (policyOf r)) → reading (packed (policyFormat .fields (policyOf r))) ≡ refusal n
+
+-- the numbers that writing gives besides 11: never 1 or 3, which are said of bytes, and never 9
+abbrev pub WritingNumbers : Type 0
+WritingNumbers = (r : Rules) (n : ℕ) → writing (policyOf r) ≡ refused n → (n ≡ 2) ⊎ ((4 ≤ n) × (n ≤ 8))
 
 -- [01:The rule file, "the fewest bits w with 2^w at least n"], for every size together
 abbrev pub SizeTakesFewestBits : Type 0

@@ -6,8 +6,14 @@ ghost use lib.Dec.{eqb};
 ghost use lib.ListN.{length};
 ghost use Rattle.policy.specs.Rules.{policyOf};
 ghost use Rattle.rules.specs.Answers.{answerOf, reading, beside, noRules, writing, writtenOf, filled};
-use format::{Cursor, judged, read_field};
-use policy::{Class, Classes, Values, Sessions, Rules};
+use format::Cursor;
+use format::judged;
+use format::read_field;
+use policy::Class;
+use policy::Classes;
+use policy::Rules;
+use policy::Sessions;
+use policy::Values;
 
 // What reading a file found: rules, or the number that is given instead.
 pub enum Reading {
@@ -31,10 +37,25 @@ pub enum Written {
 fn no_rules() -> Rules
     ensures { λ r. ⌜ r ≡ noRules ⌝ }
 {
-    let none = Class { count: 0, kinds: [0; 8], sizes: [0; 8] };
-    let empty = Values { count: 0, values: [0; 32] };
-    let classes = Classes { user: none, session: none, item: none };
-    let sessions = Sessions { count: 0, users: [0; 32], values: [0; 32] };
+    let none = Class {
+        count: 0,
+        kinds: [0; 8],
+        sizes: [0; 8],
+    };
+    let empty = Values {
+        count: 0,
+        values: [0; 32],
+    };
+    let classes = Classes {
+        user: none,
+        session: none,
+        item: none,
+    };
+    let sessions = Sessions {
+        count: 0,
+        users: [0; 32],
+        values: [0; 32],
+    };
     Rules {
         classes,
         users: empty,
@@ -50,7 +71,11 @@ fn no_rules() -> Rules
 fn at_end(s: &[u8], pos: usize) -> bool
     ensures { λ r. ⌜ r ≡ eqb pos (8 * length (now (s .entry))) ⌝ }
 {
-    if pos % 8 == 0 { pos / 8 == s.len() } else { false }
+    if pos % 8 == 0 {
+        pos / 8 == s.len()
+    } else {
+        false
+    }
 }
 
 // Reads a file: its rules, or the first number 1 to 8 and the rules of no file. The file is read once, field by field.
@@ -66,9 +91,34 @@ pub fn read_rules(file: &[u8]) -> Parsed
     let end = judged(next, at_end(file, next.pos), 3);
     if end.number != 0 {
         let none = no_rules();
-        return Parsed { answer: Reading::Refused(end.number), rules: none };
+        return Parsed {
+            answer: Reading::Refused(end.number),
+            rules: none,
+        };
     }
     let rules = r.rules;
-    Parsed { answer: Reading::Accepted, rules }
+    Parsed {
+        answer: Reading::Accepted,
+        rules,
+    }
 }
 
+// Writes rules to the front of `out`, leaves the rest, and returns the length; or the number that reading them would give, or 11 where
+// `out` is too short, with `out` as it was. Any numbers may stand in `rules`: none is cut down to fit.
+pub fn write_rules(rules: Rules, out: &mut [u8]) -> Written
+    ensures { λ r. ⌜ r ≡ writtenOf (writing (policyOf rules)) (length (now (out .entry))) ⌝ }
+    ensures { λ r. ⌜ now (out .exit) ≡ filled (writing (policyOf rules)) (now (out .entry)) ⌝ }
+{
+    let start = Cursor { number: 0, pos: 0 };
+    // Over no bytes the pass only judges: nothing is written before it is known that all can be.
+    let judged = writer::put_policy(&mut out[0..0], start, rules);
+    if judged.number != 0 {
+        return Written::Refused(judged.number);
+    }
+    let n = (judged.pos + 7) / 8;
+    if out.len() < n {
+        return Written::Refused(11);
+    }
+    writer::put_policy(out, start, rules);
+    Written::Length(n)
+}

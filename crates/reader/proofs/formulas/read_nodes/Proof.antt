@@ -12,12 +12,12 @@ use Rattle.format.specs.Format.{Format, field}
 use Rattle.format.specs.Steps.{from, resOf}
 use Rattle.format.specs.declared.Cursor.{Cursor}
 use Rattle.format.proofs.Chain.{chain-field}
+use Rattle.format.proofs.Fault.{judged-pos}
 use Rattle.policy.specs.Nodes.{nodeOk}
 use Rattle.policy.specs.Rules.{listsOf, nodesOf}
 use Rattle.policy.specs.declared.Classes.{Classes}
 use Rattle.policy.proofs.Laws.{nodes-none, nodes-more, nodes-length}
 use Rattle.reader.specs.Parts.{Earlier}
-use Rattle.format.proofs.Fault.{judged-pos}
 use Rattle.reader.proofs.Reached.{Reached, reached-none, reached-more, reached-all}
 use Rattle.reader.proofs.formulas.read_nodes.Statement.{statement}
 use Rattle.reader.proofs.formulas.read_nodes.Tie as tie

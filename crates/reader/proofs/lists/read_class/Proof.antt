@@ -2,7 +2,7 @@
 -- Assumes nothing.
 use mathlib.Core.Path.{_≡_, ap, sym, _∙_}
 use mathlib.Core.Bool.{true}
-use Prim.Native.Nat.{ℕ, _<_}
+use Prim.Native.Nat.{ℕ, _+_, _≤_}
 use native.Mathlib.Omega.{arith}
 use borrow.Author.Needs.{needs}
 use borrow.Author.Tests.{leb-true}
@@ -11,11 +11,11 @@ use Rattle.format.specs.Format.{Format}
 use Rattle.format.specs.Steps.{from, resOf}
 use Rattle.format.specs.declared.Cursor.{Cursor}
 use Rattle.format.proofs.Chain.{res-any, chain-check}
+use Rattle.format.proofs.Fault.{judged-pos, judged-true}
 use Rattle.policy.specs.Policy.{width}
 use Rattle.policy.specs.File.{classFormat}
 use Rattle.policy.specs.Rules.{attrsOf}
 use Rattle.policy.proofs.Laws.{attrs-none}
-use Rattle.format.proofs.Fault.{judged-pos, judged-true}
 use Rattle.reader.proofs.lists.read_class.Statement.{statement}
 use Rattle.reader.proofs.lists.read_class.Tie as tie
 
@@ -28,7 +28,8 @@ class-width-requires c κs = search needs
 judged-requires : tie.Need-judged-requires
 judged-requires c κs = search needs
 
--- the class that was read, judged
+-- the class that was read, judged, and the place after it
+
 read : (c : tie.After-judged)
     → let w = c .before in let k = w .before .before in let a = k .before .before .args in
     resOf (c .judged .result) (attrsOf (k .read-attrs .result .class)) ≡ from (a .at) (classFormat (a .n) .read (a .s .now))
@@ -40,31 +41,24 @@ read c =
     ap (λ (x : Cursor). resOf x (attrsOf (k .read-attrs .result .class))) (c .judged .ensures)
     ∙ chain-check _ _ 5 (a .s .now) _ _ _ _ (k .read-attrs .ensures .0) (ap (λ (x : ℕ). leb x 8) (w .class-width .ensures .0)) (omega arith)
 
+place : (c : tie.After-judged) → c .judged .result .pos ≤ c .before .before .before .before .before .args .at .pos + 96
+place c =
+    let k = c .before .before .before .read-attrs in
+    omega (arith, ap (λ (x : Cursor). x .pos) (c .judged .ensures), judged-pos (k .result .at) (leb (c .before .class-width .result) 8) 5, k .ensures .1 .0)
+
 returns : tie.Need-returns
 unfolding width
 returns c =
     let j = c .before .before in
-    let n : 0 < j .judged .result .number = omega arith in
-    let k = j .before .before .before in (
-      res-any (j .judged .result) _ _ n ∙ read j,
-      (
-        record { count = omega arith; wide = rw attrs-none (omega arith) },
-        omega (arith, ap (λ (x : Cursor). x .pos) (j .judged .ensures), judged-pos (k .read-attrs .result .at) (leb (j .before .class-width .result) 8) 5, k .read-attrs .ensures .1 .0),
-      ),
-    )
+    (res-any (j .judged .result) _ _ (omega arith) ∙ read j, (record { count = omega arith; wide = rw attrs-none (omega arith) }, place j))
 
 returns-2 : tie.Need-returns-2
 returns-2 c =
     let j = c .before .before in
-    let k = j .before .before .before in
     let w = j .before .class-width in
-    let held : leb (w .result) 8 ≡ true = judged-true (k .read-attrs .result .at) (leb (w .result) 8) 5 (omega arith) (sym (ap (λ (x : Cursor). x .number) (j .judged .ensures)) ∙ c .if1 .left) in (
-      read j,
-      (
-        record { count = omega arith; wide = omega (arith, leb-true (w .result) 8 held, w .ensures .0) },
-        omega (arith, ap (λ (x : Cursor). x .pos) (j .judged .ensures), judged-pos (k .read-attrs .result .at) (leb (w .result) 8) 5, k .read-attrs .ensures .1 .0),
-      ),
-    )
+    let held : leb (w .result) 8 ≡ true =
+    judged-true _ (leb (w .result) 8) 5 (omega arith) (sym (ap (λ (x : Cursor). x .number) (j .judged .ensures)) ∙ c .if1 .left) in
+    (read j, (record { count = omega arith; wide = omega (arith, leb-true (w .result) 8 held, w .ensures .0) }, place j))
 
 pub read-class-spec : {M : Type 1} → statement M
 read-class-spec =

@@ -8,7 +8,7 @@ use native.Mathlib.Omega.{arith}
 use borrow.Author.Needs.{needs}
 use Rattle.format.specs.Steps.{judged}
 use Rattle.policy.specs.Rules.{attrAt}
-use Rattle.reader.proofs.Value.{Partly, partly-none, partly-narrow, partly-room, partly-more, partly-below, partly-all}
+use Rattle.reader.proofs.Value.{Partly, partly-none, partly-room, partly-more, partly-below, partly-all}
 use Rattle.reader.proofs.values.read_value.Statement.{statement}
 use Rattle.reader.proofs.values.read_value.Tie as tie
 
@@ -19,16 +19,8 @@ Inv-loop s kinds sizes v₀ p₀ i₀ i-end v p i =
 abbrev μ-loop : tie.MeasureT-loop
 μ-loop s kinds sizes v₀ p₀ i₀ i-end v p i = i-end - i
 
--- a value's bits, and room for it beside those so far
-
-narrow : (c : tie.After-bits-for Inv-loop μ-loop) → c .bits-for .result ≤ 8
-unfolding attrAt
-narrow c =
-    let l = c .before .before .loop in
-    let a = c .before .before .before .before .before .before .before .args in
-    partly-narrow (a .s .now) (a .class) (a .at) (l .p) (l .v) (l .i) (c .bits-for .result) (omega arith) (l .inv .2) (c .bits-for .ensures)
-
-room : (c : tie.After-bits-for Inv-loop μ-loop) → c .before .before .loop .v * 2 ^ c .bits-for .result + 2 ^ c .bits-for .result ≤ 256
+-- there is room for a value of an attribute beside those so far
+room : (c : tie.After-bits-for Inv-loop μ-loop) → let w = c .bits-for .result in (w ≤ 8) × (c .before .before .loop .v * 2 ^ w + 2 ^ w ≤ 256)
 unfolding attrAt
 room c =
     let l = c .before .before .loop in
@@ -56,7 +48,7 @@ cast-take : tie.Need-cast-take Inv-loop μ-loop
 cast-take c = search needs
 
 take-requires : tie.Need-take-requires Inv-loop μ-loop
-take-requires c κs = (omega (arith, narrow c), omega (arith, c .before .before .loop .inv .2 .place))
+take-requires c κs = (omega (arith, room c .0), omega (arith, c .before .before .loop .inv .2 .place))
 
 code-ok-requires : tie.Need-code-ok-requires Inv-loop μ-loop
 code-ok-requires c κs = search needs
@@ -68,10 +60,10 @@ cast-v : tie.Need-cast-v Inv-loop μ-loop
 cast-v c = search needs
 
 shl-v : tie.Need-shl-v Inv-loop μ-loop
-shl-v c = omega (arith, narrow (c .before .before .before))
+shl-v c = omega (arith, room (c .before .before .before) .0)
 
 add-v : tie.Need-add-v Inv-loop μ-loop
-add-v c = omega (arith, room (c .before .before .before), c .before .before .take .ensures .1 .fits)
+add-v c = omega (arith, room (c .before .before .before) .1, c .before .before .take .ensures .1 .fits)
 
 add-i : tie.Need-add-i Inv-loop μ-loop
 add-i c = search needs
@@ -88,7 +80,7 @@ loop-again c =
     let l = b .before .before .loop in
     let a = b .before .before .before .before .before .before .before .args in
     let w = b .bits-for .result in
-    let exact : l .v * 2 ^ w % 18446744073709551616 ≡ l .v * 2 ^ w = mod-eq-of-lt (omega (arith, room b)) in (
+    let exact : l .v * 2 ^ w % 18446744073709551616 ≡ l .v * 2 ^ w = mod-eq-of-lt (omega (arith, room b .1)) in (
       search needs,
       search needs,
       rw (c .judged .ensures, exact)

@@ -1,9 +1,9 @@
--- `reader::lists::largest` meets its contract: one case for each kind. Assumes nothing.
+-- `policy::shape::largest` meets its contract: either way, the test says which number it is.
 use native.Mathlib.Omega.{arith}
 use borrow.Author.Tests.{eq-eqb, ne-eqb}
 use Rattle.policy.specs.File.{largest}
-use Rattle.reader.proofs.lists.largest.Statement.{statement}
-use Rattle.reader.proofs.lists.largest.Tie as tie
+use Rattle.policy.proofs.shape.largest.Statement.{statement}
+use Rattle.policy.proofs.shape.largest.Tie as tie
 
 returns : tie.Need-returns
 unfolding largest

@@ -1,0 +1,1 @@
+pub mod Cases  -- the marked cases in one table

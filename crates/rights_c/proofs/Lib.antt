@@ -1,0 +1,1 @@
+pub mod Laws  -- numbers and lengths of what was written

@@ -1,0 +1,46 @@
+// The library for C and Rust hosts: each call returns 0, or paper 01's number.
+ghost use mathlib.Core.Path.{_≡_};
+ghost use lib.ListN.{length};
+ghost use Rattle.rules.specs.Answers.{reading, filled};
+ghost use Rattle.rights_c.specs.Numbers.{numberOf, rewritten, writeNumber, writeLength};
+use rules::Reading;
+use rules::Written;
+
+// Reads a rule file: 0 where it is accepted, or the first number 1 to 8.
+#[no_mangle]
+pub extern "C" fn rights_read(file: &[u8]) -> u32
+    ensures { λ r. ⌜ r ≡ numberOf (reading (now (file .entry))) ⌝ }
+{
+    let p = rules::read_rules(file);
+    let answer = p.answer;
+    match answer {
+        Reading::Accepted => 0,
+        Reading::Refused(n) => n as u32,
+    }
+}
+
+// Reads a rule file and writes its rules back to the front of `out`: 0 and the length, or the first number 1 to 8, or 11 where `out` is
+// too short; then the length is 0 and `out` is as it was.
+#[no_mangle]
+pub extern "C" fn rights_write_back(file: &[u8], out: &mut [u8], size: &mut usize) -> u32
+    ensures { λ r. ⌜ r ≡ writeNumber (rewritten (reading (now (file .entry)))) (length (now (out .entry))) ⌝ }
+    ensures { λ r. ⌜ now (size .exit) ≡ writeLength (rewritten (reading (now (file .entry)))) (length (now (out .entry))) ⌝ }
+    ensures { λ r. ⌜ now (out .exit) ≡ filled (rewritten (reading (now (file .entry)))) (now (out .entry)) ⌝ }
+{
+    *size = 0;
+    let p = rules::read_rules(file);
+    let answer = p.answer;
+    match answer {
+        Reading::Refused(n) => n as u32,
+        Reading::Accepted => {
+            let w = rules::write_rules(p.rules, out);
+            match w {
+                Written::Refused(n) => n as u32,
+                Written::Length(n) => {
+                    *size = n;
+                    0
+                }
+            }
+        }
+    }
+}

@@ -1,0 +1,1 @@
+pub mod Value  -- storing a value attribute by attribute

@@ -1,13 +1,16 @@
 #!/usr/bin/env python3
 """make.py TABLE FOLDER: turns the table of rule files and rules into FOLDER/stdin and FOLDER/stdout for the program case_rules.
 
-stdin is a row of records: 0, the file; or 1, the file, the length to write to, the changes, the bytes to be written. Lengths take two bytes,
-a change is a part (1 byte), an index (2) and a value (4); all most significant first. stdout has a line for each record."""
+stdin is a row of records: 0, the file; or 1, the file, the length to write to, the changes, the bytes to be written; or 2 and five numbers,
+a question on sets. Lengths take two bytes, a change is a part (1 byte), an index (2) and a value (4); all most significant first. stdout has
+a line for each record."""
 import re
 import sys
 
 PARTS = ["user.count", "session.count", "item.count", "users", "sessions", "items", "permissions", "user.kind", "user.size", "session.kind",
          "session.size", "item.kind", "item.size", "value", "owner", "held", "item", "length", "node"]
+
+SETS = ["member", "subset", "proper"]
 
 
 def bits_of(text, names):
@@ -83,6 +86,9 @@ def records(path):
         elif word == "same":
             left, _, right = rest.partition(" ")
             assert file_of(left, names) == file_of(right, names), f"line {number}"
+        elif word in SETS:
+            answer, *numbers = rest.split()
+            yield bytes([2, SETS.index(word)] + list(map(int, numbers)) + [0] * (4 - len(numbers))), answer
         elif word == "write":
             answer, length, changes, text = rest.split(" ", 3)
             text, _, written = text.partition("=>")

@@ -116,11 +116,35 @@ fn changed_case(s: &[u8], at: usize, file: &[u8]) -> usize
     i + 2 + size
 }
 
+// A question on sets: membership, subset or proper subset.
+fn print_set(what: usize, n: u64, x: u64, m: u64, y: u64) {
+    let yes = match what {
+        0 => bits::member(x, n, m),
+        1 => bits::subset(x, n, y, m),
+        _ => bits::proper(x, n, y, m),
+    };
+    if yes {
+        io::write_all(STDOUT_FILENO, b" yes");
+    } else {
+        io::write_all(STDOUT_FILENO, b" no");
+    }
+}
+
 // One record. Returns the place after it.
 fn one(s: &[u8], at: usize) -> usize
     requires { ⌜ at < 65536 ⌝ }
     ensures { λ r. ⌜ (at < r) × (r < 700000) ⌝ }
 {
+    if byte(s, at) == 2 {
+        print_set(
+            byte(s, at + 1),
+            byte(s, at + 2) as u64,
+            byte(s, at + 3) as u64,
+            byte(s, at + 4) as u64,
+            byte(s, at + 5) as u64,
+        );
+        return at + 6;
+    }
     let n = word(s, at + 1);
     let file = part(s, at + 3, n);
     let next = at + 3 + n;

@@ -1,9 +1,9 @@
 // Reading rules, part by part in the file's order. Each part takes a cursor and gives the one after it; once a number was given, every
 // later part leaves the cursor as it is.
 ghost use mathlib.Core.Path.{_≡_};
-ghost use Prim.Native.Nat.{_+_, _^_, _≤_, _<_};
+ghost use Prim.Native.Nat.{_≤_};
 ghost use Rattle.format.specs.Format.{Format};
-ghost use Rattle.format.specs.Steps.{from, resOf};
+ghost use Rattle.format.specs.Steps.{resOf};
 ghost use Rattle.policy.specs.File.{policyFormat};
 ghost use Rattle.policy.specs.Rules.{policyOf};
 
@@ -88,12 +88,11 @@ pub struct RulesRead {
 }
 
 // The whole file up to its filling bits.
-pub fn read_policy(s: &[u8], at: Cursor) -> RulesRead
-    requires { ⌜ at .pos < 2 ^ 30 ⌝ }
-    ensures { λ r. ⌜ resOf (r .at) (policyOf (r .rules)) ≡ from at (policyFormat .read (now (s .entry))) ⌝ }
-    ensures { λ r. ⌜ r .at .pos ≤ at .pos + 16680 ⌝ }
+pub fn read_policy(s: &[u8]) -> RulesRead
+    ensures { λ r. ⌜ resOf (r .at) (policyOf (r .rules)) ≡ policyFormat .read (now (s .entry)) 0 ⌝ }
+    ensures { λ r. ⌜ r .at .pos ≤ 16680 ⌝ }
 {
-    let h = read_counts(s, at);
+    let h = read_counts(s, Cursor { number: 0, pos: 0 });
     let c = read_classes(s, h.at, h);
     let classes = c.classes;
     let u = read_values(s, c.at, classes.user, h.users);

@@ -6,7 +6,6 @@ ghost use lib.Dec.{eqb};
 ghost use lib.ListN.{length};
 ghost use Rattle.policy.specs.Rules.{policyOf};
 ghost use Rattle.rules.specs.Answers.{answerOf, reading, beside, noRules, writing, writtenOf, filled};
-use format::Cursor;
 use format::judged;
 use format::read_field;
 use policy::Class;
@@ -83,8 +82,7 @@ pub fn read_rules(file: &[u8]) -> Parsed
     ensures { λ r. ⌜ answerOf (r .answer) (policyOf (r .rules)) ≡ reading (now (file .entry)) ⌝ }
     ensures { λ r. ⌜ r .rules ≡ beside (r .answer) (r .rules) ⌝ }
 {
-    let start = Cursor { number: 0, pos: 0 };
-    let r = reader::read_policy(file, start);
+    let r = reader::read_policy(file);
     let at = r.at;
     let fill = read_field(file, at, (8 - at.pos % 8) % 8, 0, 1, 3);
     let next = fill.at;
@@ -109,9 +107,8 @@ pub fn write_rules(rules: Rules, out: &mut [u8]) -> Written
     ensures { λ r. ⌜ r ≡ writtenOf (writing (policyOf rules)) (length (now (out .entry))) ⌝ }
     ensures { λ r. ⌜ now (out .exit) ≡ filled (writing (policyOf rules)) (now (out .entry)) ⌝ }
 {
-    let start = Cursor { number: 0, pos: 0 };
     // Over no bytes the pass only judges: nothing is written before it is known that all can be.
-    let judged = writer::put_policy(&mut out[0..0], start, rules);
+    let judged = writer::put_policy(&mut out[0..0], rules);
     if judged.number != 0 {
         return Written::Refused(judged.number);
     }
@@ -119,6 +116,6 @@ pub fn write_rules(rules: Rules, out: &mut [u8]) -> Written
     if out.len() < n {
         return Written::Refused(11);
     }
-    writer::put_policy(out, start, rules);
+    writer::put_policy(out, rules);
     Written::Length(n)
 }

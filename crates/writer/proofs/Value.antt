@@ -1,5 +1,5 @@
 -- Laws of storing a holder's value attribute by attribute. In order: the attributes from one on, what is still to be stored, one turn, the end.
-use mathlib.Core.Path.{_≡_, refl, sym, ap, _∙_}
+use mathlib.Core.Path.{_≡_, sym, ap, _∙_}
 use mathlib.Core.Bool.{Bool, true}
 use mathlib.Core.List.{List, [], _∷_}
 use Prim.Native.Nat.{ℕ, suc, _+_, _-_, _/_, _%_, _^_, _<_}
@@ -7,7 +7,7 @@ use native.Mathlib.Numerals.{add-one}
 use native.Mathlib.Omega.{arith}
 use Rattle.bits.specs.Packed.{tab}
 use Rattle.bits.proofs.Packed.{tab-zero, tab-first}
-use Rattle.format.specs.Format.{Format, field, within}
+use Rattle.format.specs.Format.{field, within}
 use Rattle.format.specs.Steps.{Stores}
 use Rattle.format.specs.declared.Cursor.{Cursor}
 use Rattle.format.proofs.Store.{stores-pair, stores-via, stores-field}

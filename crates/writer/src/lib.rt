@@ -2,7 +2,7 @@
 // number was given, every later part leaves the cursor as it is and stores nothing. A field that has no room is not stored, so
 // that over no bytes at all the same pass only judges.
 ghost use mathlib.Core.Path.{_≡_};
-ghost use Prim.Native.Nat.{_+_, _^_, _≤_, _<_};
+ghost use Prim.Native.Nat.{_^_, _<_};
 ghost use Rattle.format.specs.Format.{Format};
 ghost use Rattle.format.specs.Steps.{Stores};
 ghost use Rattle.policy.specs.File.{policyFormat};
@@ -33,9 +33,8 @@ pub struct Counts {
 }
 
 // The whole file up to its filling bits.
-pub fn put_policy(out: &mut [u8], at: Cursor, rules: Rules) -> Cursor
-    requires { ⌜ at .pos < 2 ^ 30 ⌝ }
-    ensures { λ r. ⌜ Stores policyFormat (policyOf rules) (now (out .entry)) (now (out .exit)) at r ⌝ }
+pub fn put_policy(out: &mut [u8], rules: Rules) -> Cursor
+    ensures { λ r. ⌜ Stores policyFormat (policyOf rules) (now (out .entry)) (now (out .exit)) record { number = 0; pos = 0 } r ⌝ }
     ensures { λ r. ⌜ r .pos < 2 ^ 36 ⌝ }
 {
     let classes = rules.classes;
@@ -51,7 +50,7 @@ pub fn put_policy(out: &mut [u8], at: Cursor, rules: Rules) -> Cursor
         items: items.count,
         permissions: rules.permissions,
     };
-    let a = put_counts(out, at, counts);
+    let a = put_counts(out, Cursor { number: 0, pos: 0 }, counts);
     let b = put_classes(out, a, classes);
     let c = put_values(out, b, classes.user, users);
     let d = put_sessions(out, c, classes.session, users.count, sessions);

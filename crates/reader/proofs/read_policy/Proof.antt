@@ -1,9 +1,9 @@
 -- `reader::read_policy` meets its contract: the six parts one after another are the format's, and the counts that the rules keep are the head's,
 -- unless a number was given, where they don't matter. Assumes nothing.
-use mathlib.Core.Path.{refl}
+use mathlib.Core.Path.{refl, _∙_}
 use native.Mathlib.Omega.{arith}
 use borrow.Author.Needs.{needs}
-use Rattle.format.proofs.Chain.{chain-pair, chain-via}
+use Rattle.format.proofs.Chain.{from-good, chain-pair, chain-via}
 use Rattle.policy.specs.File.{policyFormat}
 use Rattle.policy.specs.Rules.{listsOf}
 use Rattle.reader.specs.Parts.{headOf}
@@ -40,7 +40,6 @@ read-formulas-requires c κs =
         ku .read-values .ensures .1 .0,
         kc .read-classes .ensures .1 .1,
         kh .read-counts .ensures .1 .1,
-        kh .before .before .pre,
       ),
     )
 
@@ -61,7 +60,8 @@ returns c =
           (chain-pair _ _ s _ _ _ _ _ (kc .read-classes .ensures .0)
           (chain-pair _ _ s _ _ _ _ _ (ku .read-values .ensures .0)
           (chain-pair _ _ s _ _ _ _ _ (kt .read-sessions .ensures .0)
-          (chain-pair _ _ s _ _ _ _ _ (ki .read-values2 .ensures .0) (kf .read-formulas .ensures .0))))))),
+          (chain-pair _ _ s _ _ _ _ _ (ki .read-values2 .ensures .0) (kf .read-formulas .ensures .0)))))))
+          ∙ from-good _ _ refl,
       omega (
         arith,
         kf .read-formulas .ensures .1,

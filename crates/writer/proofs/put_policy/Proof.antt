@@ -37,7 +37,7 @@ returns c =
     let k₃ = k₄ .before .before .before .before in
     let k₂ = k₃ .before .before .before .before in
     let k₁ = k₂ .before .before .before .before in (
-      stores-via _ _ _ (policyOf (k₁ .before .before .before .before .before .before .before .args .t3))
+      stores-via _ _ _ (policyOf (k₁ .before .before .before .before .before .before .before .args .t2))
           (stores-pair _ _ (k₁ .put-counts .ensures .0)
           (stores-pair _ _ (k₂ .put-classes .ensures .0)
           (stores-pair _ _ (k₃ .put-values .ensures .0)

@@ -1,5 +1,4 @@
 -- `writer::formulas::put_formula` meets its contract: the count of nodes, which is the length of their list, then the nodes.
-use mathlib.Core.Path.{sym}
 use native.Mathlib.Omega.{arith}
 use Rattle.format.proofs.Store.{stores-pair, stores-via}
 use Rattle.policy.specs.File.{formulaFormat}

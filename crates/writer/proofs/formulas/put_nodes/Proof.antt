@@ -4,10 +4,9 @@ use mathlib.Core.Path.{_≡_, refl}
 use Prim.Native.Nat.{_+_, _*_, _-_, _≤_}
 use native.Mathlib.Omega.{arith}
 use lib.ListN.{length}
-use Rattle.format.specs.Format.{rows, field}
+use Rattle.format.specs.Format.{field, rows}
 use Rattle.format.specs.Steps.{Stores}
-use Rattle.format.proofs.Store.{stores-rows-begin, stores-rows-turn}
-use Rattle.format.proofs.Store.{stores-field}
+use Rattle.format.proofs.Store.{stores-field, stores-rows-begin, stores-rows-turn}
 use Rattle.policy.specs.Nodes.{nodeOk}
 use Rattle.policy.specs.Rules.{listsOf, nodesOf}
 use Rattle.policy.proofs.Laws.{nodes-none, nodes-next, nodes-length}

@@ -9,7 +9,6 @@ use Rattle.format.specs.Format.{rows}
 use Rattle.format.specs.Steps.{Stores}
 use Rattle.format.proofs.Store.{stores-rows-begin, stores-rows-turn}
 use Rattle.policy.specs.File.{attrFormat}
-use Rattle.policy.specs.Policy.{Attr}
 use Rattle.policy.specs.Rules.{attrAt, attrsOf}
 use Rattle.policy.proofs.Laws.{attrs-none, attrs-next, attrs-length}
 use Rattle.writer.proofs.lists.put_attrs.Statement.{statement}

@@ -2,8 +2,7 @@
 -- whole value; `rest` is how wide those attributes are, each of the first i took no more than 255 bits, and the bytes are as many as before.
 -- The measure is how many attributes are left.
 use mathlib.Core.Path.{_≡_, refl, sym, ap, _∙_}
-use mathlib.Core.List.{List}
-use Prim.Native.Nat.{ℕ, _+_, _*_, _-_, _≤_}
+use Prim.Native.Nat.{_+_, _*_, _-_, _≤_}
 use borrow.Author.Needs.{needs}
 use native.Mathlib.Omega.{arith}
 use lib.ListN.{length}
@@ -25,17 +24,20 @@ abbrev μ-loop : tie.MeasureT-loop
 -- the attribute that was looked up is attribute i
 attr :
     (c : tie.After-byte-at2 Inv-loop μ-loop)
-    → _≡_ {A = Attr} (record { kind = c .before .before .byte-at .result; size = c .byte-at2 .result }) (attrAt (c .before .before .before .before .before .before .before .before .before .before .before .args .class) (c .before .before .before .before .before .loop .i))
+    → let l = c .before .before .before .before .before in
+    _≡_ {A = Attr} (record { kind = c .before .before .byte-at .result; size = c .byte-at2 .result }) (attrAt (l .before .before .before .before .before .before .args .class) (l .loop .i))
 unfolding attrAt
 attr c = rw (c .before .before .byte-at .ensures, c .byte-at2 .ensures)
 
 -- what is left is as wide as it and the attributes after it
 wide :
     (c : tie.After-bits-for Inv-loop μ-loop)
-    → c .before .before .before .before .before .before .loop .rest ≡ c .bits-for .result + width (attrsFrom (c .before .before .before .before .before .before .before .before .before .before .before .before .args .class) (c .before .before .before .before .before .before .loop .i + 1))
+    → let l = c .before .before .before .before .before .before in
+    l .loop .rest ≡ c .bits-for .result + width (attrsFrom (l .before .before .before .before .before .before .args .class) (l .loop .i + 1))
 wide c =
-    let l = c .before .before .before .before .before .before .loop in
-    omega (arith, from-width (c .before .before .before .before .before .before .before .before .before .before .before .before .args .class) (l .i) (c .before .before .before .before .before .loop-test .taken) (attr (c .before)))
+    let t = c .before .before .before .before .before in
+    let l = t .before in
+    omega (arith, from-width (l .before .before .before .before .before .before .args .class) (l .loop .i) (t .loop-test .taken) (attr (c .before)))
 
 class-width-requires : tie.Need-class-width-requires Inv-loop μ-loop
 class-width-requires c κs = tt
@@ -91,14 +93,14 @@ loop-again : tie.Need-loop-again Inv-loop μ-loop
 loop-again c =
     let k = c .before .before in
     let m = k .before .before .before .before .before in
-    let l = m .before .before .before .before .before .before .loop in
-    let class = m .before .before .before .before .before .before .before .before .before .before .before .before .args .class in (
+    let t = m .before .before .before .before .before in
+    let l = t .before in (
       omega arith,
       omega arith,
       omega arith,
       omega (arith, wide m),
-      onward-turn class (l .i) (m .before .before .before .before .before .loop-test .taken) (attr (m .before)) (m .bits-for .ensures) (k .before .code-ok .ensures) (omega (arith, wide m))
-          (k .before .before .before .before .high .ensures) (k .before .before .before .low .ensures) (l .inv .4) (k .put-field .ensures .0),
+      onward-turn (l .before .before .before .before .before .before .args .class) (l .loop .i) (t .loop-test .taken) (attr (m .before)) (m .bits-for .ensures) (k .before .code-ok .ensures)
+          (omega (arith, wide m)) (k .before .before .before .before .high .ensures) (k .before .before .before .low .ensures) (l .loop .inv .4) (k .put-field .ensures .0),
     )
 
 put-field-requires-2 : tie.Need-put-field-requires-2 Inv-loop μ-loop

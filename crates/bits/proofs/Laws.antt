@@ -22,9 +22,9 @@ bit-lt s i = omega arith
 pub pow-more : (k : ℕ) → 2 ^ suc k ≡ 2 ^ k * 2
 pow-more k = simp unary-clauses
 
--- a number has no bit past those that it fits in
-pub bit-past : (x n k : ℕ) → x < 2 ^ n → n ≤ k → x / 2 ^ k % 2 ≡ 0
-bit-past x n k h l = let e : x < 2 ^ k = omega (arith, pow-mono l) in omega (arith, div-eq-of-lt e)
+-- nothing is left of a number without the bits that it fits in
+pub none-above : (x n k : ℕ) → x < 2 ^ n → n ≤ k → x / 2 ^ k ≡ 0
+none-above x n k h l = let e : x < 2 ^ k = omega (arith, pow-mono l) in div-eq-of-lt e
 
 pub number-is : (s : List ℕ) (pos w : ℕ) → numberAt s pos w ≡ numberOf (bitAt s) pos w
 unfolding numberAt
@@ -109,6 +109,13 @@ pub all-bits : (x w : ℕ) → numberOf (nth w x) 0 w ≡ x % 2 ^ w
 all-bits x w =
     ap (λ (z : ℕ). numberOf (nth z x) 0 w) (omega arith) ∙ first-bits x 0 w ∙ ap (λ (z : ℕ). z % 2 ^ w) (let e : x / 2 ^ 0 ≡ x = omega arith in e)
 
+-- the m bits from bit j on, of w bits of which k are left
+pub some-bits : (x w j m k : ℕ) → w ≡ j + m + k → x % 2 ^ w / 2 ^ k % 2 ^ m ≡ numberOf (nth w x) j m
+some-bits x w j m k e =
+    ap (λ (z : ℕ). z / 2 ^ k % 2 ^ m) (sym (all-bits x w) ∙ ap (numberOf (nth w x) 0) e)
+    ∙ number-middle (nth w x) (λ i. omega arith) 0 j m k
+    ∙ ap (λ (z : ℕ). numberOf (nth w x) z m) (omega arith)
+
 -- bit i of a number made of bits
 pub bit-of-number : (b : ℕ → ℕ) → ((i : ℕ) → b i < 2) → (p n i : ℕ) → i < n → nth n (numberOf b p n) i ≡ b (p + i)
 unfolding numberOf
@@ -169,7 +176,7 @@ unfolding numberAt numberOf
 number-none s pos = refl
 
 -- the machine's mask of w ones
-pub ones : (w : ℕ) → w ≤ 24 → 1 * 2 ^ w % 2 ^ 64 ≡ 2 ^ w
+pub ones : (w : ℕ) → w < 64 → 1 * 2 ^ w % 2 ^ 64 ≡ 2 ^ w
 ones w h = shl-exact 1 w 64 (omega arith) (omega arith) ∙ one-mul (2 ^ w)
 
 -- a field is cut out of the four bytes that hold it by a shift and a mask
@@ -180,7 +187,7 @@ field-cut s pos w h =
     let n = 32 - pos % 8 - w in
     let b = numberOf (bitAt s) (8 * (pos / 8)) in
     let v = b 32 / 2 ^ n in
-    ap (λ (z : ℕ). bitAnd v (z - 1)) (ones w h) ∙ and-mask v w
+    ap (λ (z : ℕ). bitAnd v (z - 1)) (ones w (omega arith)) ∙ and-mask v w
     ∙ ap (λ (z : ℕ). b z / 2 ^ n % 2 ^ w) (let e : 32 ≡ pos % 8 + w + n = omega arith in e)
     ∙ number-middle (bitAt s) (bit-lt s) (8 * (pos / 8)) (pos % 8) w n
     ∙ ap (λ (z : ℕ). numberOf (bitAt s) z w) (omega arith)

@@ -1,9 +1,11 @@
 // Fields of bits in bytes, and sets as masks: the leaves that every other crate reads and writes by.
 ghost use mathlib.Core.Path.{_≡_};
-ghost use Prim.Native.Nat.{_*_, _/_, _%_, _^_, _<_};
-ghost use lib.ListN.{getD};
+ghost use mathlib.Core.Bool.{cond};
+ghost use Prim.Native.Nat.{_+_, _*_, _/_, _%_, _^_, _<_};
+ghost use lib.Dec.{eqb};
+ghost use lib.ListN.{length, getD};
 ghost use Rattle.bits.specs.Field.{numberAt, fieldAt};
-ghost use Rattle.bits.specs.Packed.{withBit, put as putOf};
+ghost use Rattle.bits.specs.Packed.{put as putOf};
 ghost use Rattle.bits.specs.Set.{sizeOf, inSet, subsetOf, properOf};
 
 // What stands at a place of some bits: their number; or nothing, where the place is wider than 24 bits or runs past the end.
@@ -49,22 +51,33 @@ pub fn field_at(s: &[u8], pos: usize, w: usize) -> Field
     Field::Value(x & ones)
 }
 
-// Bit k of x, counted from the least significant.
-fn bit(x: u64, k: usize) -> u64
-    ensures { λ r. ⌜ r ≡ x / 2 ^ k % 2 ⌝ }
+// The last n bits of x.
+pub fn low_bits(x: u64, n: usize) -> u64
+    ensures { λ r. ⌜ r ≡ x % 2 ^ n ⌝ }
 {
-    if k < 64 { (x >> k) % 2 } else { 0 }
+    if n < 64 { x & ((1u64 << n) - 1) } else { x }
 }
 
-// Byte v with bit i of the bytes, b, stored in it: the first bit of a byte clears it.
-fn with_bit(v: u8, i: usize, b: u64) -> u8
-    requires { ⌜ b < 2 ⌝ }
-    ensures { λ r. ⌜ r ≡ withBit v i b ⌝ }
+// x without its last k bits.
+pub fn high_bits(x: u64, k: usize) -> u64
+    ensures { λ r. ⌜ r ≡ x / 2 ^ k ⌝ }
 {
-    if i % 8 == 0 {
-        return (b * 128) as u8;
-    }
-    ((v as u64 + (b << (7 - i % 8))) % 256) as u8
+    if k < 64 { x >> k } else { 0 }
+}
+
+// What stays of byte k where bits are stored from its bit r on: nothing, where they begin with its first.
+fn kept(s: &[u8], k: usize, r: usize) -> u8
+    requires { ⌜ (0 < r → k < length (now s)) ⌝ }
+    ensures { λ v. ⌜ v ≡ cond (eqb r 0) 0 (getD (now (s .entry)) k 0) ⌝ }
+{
+    if r == 0 { 0 } else { s[k] }
+}
+
+// The low byte of v + c.
+fn low_byte(v: u8, c: u64) -> u8
+    ensures { λ r. ⌜ r ≡ (v + c) % 256 ⌝ }
+{
+    ((v as u64 + c % 256) % 256) as u8
 }
 
 // The low w bits of x are stored from bit pos on: the first bit of each byte clears that byte, and all that stands before bit pos stays.
@@ -78,10 +91,20 @@ pub fn put(out: &mut [u8], pos: usize, w: u8, x: u64)
     if out.len() < k + (r + n + 7) / 8 {
         return;
     }
-    for j in 0..n {
-        let i = k + (r + j) / 8;
-        let b = bit(x, n - 1 - j);
-        out[i] = with_bit(out[i], r + j, b);
+    let y = low_bits(x, n);
+    let mut v = kept(out, k, r);
+    let mut i = k;
+    let mut free = 8 - r;
+    let mut left = n;
+    while free <= left {
+        left -= free;
+        out[i] = low_byte(v, high_bits(y, left));
+        i += 1;
+        v = 0;
+        free = 8;
+    }
+    if 0 < left {
+        out[i] = low_byte(v, y << (free - left));
     }
 }
 

@@ -1,12 +1,14 @@
 // The values of holders, and the starting sessions.
 ghost use mathlib.Core.Path.{_≡_};
-ghost use Prim.Native.Nat.{_+_, _*_, _/_, _%_, _^_, _≤_, _<_};
+ghost use Prim.Native.Nat.{_+_, _*_, _^_, _≤_, _<_};
 ghost use Rattle.format.specs.Format.{Format, rows};
 ghost use Rattle.format.specs.Steps.{Stores};
 ghost use Rattle.policy.specs.Policy.{Session};
 ghost use Rattle.policy.specs.File.{valueFormat, sessionFormat};
 ghost use Rattle.policy.specs.Rules.{attrsOf, valuesOf, sessionsOf};
 use super::head::put_range;
+use bits::high_bits;
+use bits::low_bits;
 use format::Cursor;
 use format::put_field;
 use policy::Class;
@@ -16,20 +18,6 @@ use policy::shape::bits_for;
 use policy::shape::byte_at;
 use policy::shape::class_width;
 use policy::shape::code_ok;
-
-// x without its last k bits.
-fn high(x: u64, k: usize) -> u64
-    ensures { λ r. ⌜ r ≡ x / 2 ^ k ⌝ }
-{
-    if k < 64 { x >> k } else { 0 }
-}
-
-// The last k bits of x.
-fn low(x: u64, k: usize) -> u64
-    ensures { λ r. ⌜ r ≡ x % 2 ^ k ⌝ }
-{
-    if k < 64 { x & ((1u64 << k) - 1) } else { x }
-}
 
 // A holder's value: its attributes' values one after another. What is left above the first attribute's codes is judged with it, and with
 // no attribute only 0 is a value.
@@ -48,8 +36,8 @@ fn put_value(out: &mut [u8], at: Cursor, class: Class, v: u8) -> Cursor
         let size = byte_at(&sizes, i);
         let w = bits_for(kind, size);
         rest -= w as usize;
-        let y = high(x, rest);
-        x = low(x, rest);
+        let y = high_bits(x, rest);
+        x = low_bits(x, rest);
         p = put_field(out, p, w, y, code_ok(kind, size, y), 6);
     }
     put_field(out, p, 0, x, true, 6)

@@ -71,11 +71,11 @@ cast-rest c = omega arith
 sub-rest : tie.Need-sub-rest Inv-loop μ-loop
 sub-rest c = omega (arith, wide c)
 
-high-requires : tie.Need-high-requires Inv-loop μ-loop
-high-requires c κs = tt
+high-bits-requires : tie.Need-high-bits-requires Inv-loop μ-loop
+high-bits-requires c κs = tt
 
-low-requires : tie.Need-low-requires Inv-loop μ-loop
-low-requires c κs = tt
+low-bits-requires : tie.Need-low-bits-requires Inv-loop μ-loop
+low-bits-requires c κs = tt
 
 code-ok-requires : tie.Need-code-ok-requires Inv-loop μ-loop
 code-ok-requires c κs = tt
@@ -100,7 +100,7 @@ loop-again c =
       omega arith,
       omega (arith, wide m),
       onward-turn (l .before .before .before .before .before .before .args .class) (l .loop .i) (t .loop-test .taken) (attr (m .before)) (m .bits-for .ensures) (k .before .code-ok .ensures)
-          (omega (arith, wide m)) (k .before .before .before .before .high .ensures) (k .before .before .before .low .ensures) (l .loop .inv .4) (k .put-field .ensures .0),
+          (omega (arith, wide m)) (k .before .before .before .before .high-bits .ensures) (k .before .before .before .low-bits .ensures) (l .loop .inv .4) (k .put-field .ensures .0),
     )
 
 put-field-requires-2 : tie.Need-put-field-requires-2 Inv-loop μ-loop
@@ -133,8 +133,8 @@ put-value-spec =
     bits-for-requires
     cast-rest
     sub-rest
-    high-requires
-    low-requires
+    high-bits-requires
+    low-bits-requires
     code-ok-requires
     put-field-requires
     add-i

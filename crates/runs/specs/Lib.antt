@@ -1,0 +1,7 @@
+-- in reading order
+pub mod Model  -- what rules allow, whatever they are
+pub mod State  -- sessions and items, and what stands at the start
+pub mod Step  -- the six kinds of step, each with what it asks and what it does
+pub mod Run  -- runs of any length
+pub mod Grant  -- which grants fit a question
+pub mod Claims  -- what is proved of steps

@@ -1,15 +1,82 @@
--- A step that is computed is carried out, and the other way round. In order: tests in a row, an open session, each kind, all kinds.
+-- Laws of the definitions in specs/; no other file here unfolds those. In order: places of sessions and items; tests in a row;
+-- an open session; each kind of step; all kinds; runs.
 use mathlib.Core.Path.{_≡_, refl, sym, ap, _∙_, subst}
 use mathlib.Core.Bool.{Bool, true, false}
 use mathlib.Core.List.{List, [], _∷_, _++_}
 use mathlib.Core.Option.{Option, none, some}
-use Prim.Native.Nat.{ℕ, zero, suc, _+_, _<_}
+use Prim.Native.Nat.{ℕ, zero, suc, _<_}
 use native.Mathlib.Omega.{arith}
 use borrow.Author.Tests.{eqb-true, ltb-true, eq-eqb, lt-ltb}
-use lib.ListN.{length, set}
+use lib.ListN.{length, getD, set, List·getD-append}
+use lib.Seq.{getD-set-same, getD-append-seam, set-getD}
 use Rattle.runs.specs.Model.{Model}
-use Rattle.runs.specs.State.{Session, closed, opened, State, sessionAt, itemAt}
+use Rattle.runs.specs.State.{Session, closed, opened, Item, State, sessionAt, itemAt, begin}
 use Rattle.runs.specs.Step.{Step, Carried, opens, closes, changes, makes, modifies, grants, when, whenOpen, toOpen, toClose, toChange, toMake, toModify, toAccess, byKind, stepped}
+use Rattle.runs.specs.Run.{orSame, run}
+
+abbrev pub state : List Session → List Item → State
+state ss is = record { sessions = ss; items = is }
+
+pub sessionAt-is : (s : State) (k : ℕ) → sessionAt s k ≡ getD (s .sessions) k closed
+unfolding sessionAt
+sessionAt-is s k = refl
+
+pub itemAt-is : (s : State) (k : ℕ) → itemAt s k ≡ getD (s .items) k 0
+unfolding itemAt
+itemAt-is s k = refl
+
+pub not-closed : {u v : ℕ} → Path Session closed (opened u v) → ⊥
+not-closed e = let z : _≡_ {A = ℕ} 0 1 = cc in omega arith
+
+open-below : (l : List Session) (k u v : ℕ) → getD l k closed ≡ opened u v → k < length l
+open-below [] k u v e = absurd (not-closed e)
+open-below (x ∷ l) zero u v e = omega arith
+open-below (x ∷ l) (suc k) u v e = let h = open-below l k u v e in omega arith
+
+-- an open session stands inside its list
+pub open-inside : (s : State) (k u v : ℕ) → sessionAt s k ≡ opened u v → k < length (s .sessions)
+unfolding sessionAt
+open-inside s k u v e = open-below (s .sessions) k u v e
+
+-- no session is open at a start without sessions
+pub begin-none : (items : List Item) (k u v : ℕ) → sessionAt (begin [] items) k ≡ opened u v → ⊥
+unfolding begin sessionAt
+begin-none items k u v e = not-closed e
+
+module _ (s : State) where
+  pub sessionAt-added : (u v : ℕ) → sessionAt (state (s .sessions ++ opened u v ∷ []) (s .items)) (length (s .sessions)) ≡ opened u v
+  unfolding sessionAt
+  sessionAt-added u v = getD-append-seam (s .sessions) (opened u v) [] closed
+
+  pub sessionAt-kept : (added : List Session) (is : List Item) (k u v : ℕ) → sessionAt s k ≡ opened u v → sessionAt (state (s .sessions ++ added) is) k ≡ opened u v
+  unfolding sessionAt
+  sessionAt-kept added is k u v e = let h = open-inside s k u v e in rw List·getD-append e
+
+  pub sessionAt-set : (k u held v : ℕ) → sessionAt s k ≡ opened u held → sessionAt (state (set (s .sessions) k (opened u v)) (s .items)) k ≡ opened u v
+  unfolding sessionAt
+  sessionAt-set k u held v e = getD-set-same (s .sessions) k (opened u v) closed (open-inside s k u held e)
+
+  -- a session set to what it is
+  pub set-sessionAt : (k : ℕ) (x : Session) → sessionAt s k ≡ x → set (s .sessions) k x ≡ s .sessions
+  unfolding sessionAt
+  set-sessionAt k x e = rw (← e) (set-getD (s .sessions) k closed)
+
+  pub itemAt-same : (ss : List Session) (k : ℕ) → itemAt (state ss (s .items)) k ≡ itemAt s k
+  unfolding itemAt
+  itemAt-same ss k = refl
+
+  pub itemAt-added : (ss : List Session) (o : ℕ) → itemAt (state ss (s .items ++ o ∷ [])) (length (s .items)) ≡ o
+  unfolding itemAt
+  itemAt-added ss o = getD-append-seam (s .items) o [] 0
+
+  pub itemAt-set : (ss : List Session) (k o : ℕ) → k < length (s .items) → itemAt (state ss (set (s .items) k o)) k ≡ o
+  unfolding itemAt
+  itemAt-set ss k o h = getD-set-same (s .items) k o 0 h
+
+  -- an item set to what it is
+  pub set-itemAt : (k o : ℕ) → itemAt s k ≡ o → set (s .items) k o ≡ s .items
+  unfolding itemAt
+  set-itemAt k o e = rw (← e) (set-getD (s .items) k 0)
 
 -- every test of a row holds
 abbrev pub AllTrue : List Bool → Type 0
@@ -129,3 +196,20 @@ module _ (m : Model) (s : State) (p : Step) (after : State) where
   carried-stepped (grants h) =
       kind-is 6 _ (h .kind)
       (open-is _ _ _ _ (h .actor) ∙ when-all _ _ (lt-ltb _ _ (h .there), (lt-ltb _ _ (h .permission), (h .allowed, tt))) ∙ ap some (sym (h .state)))
+
+module _ (m : Model) (s : State) where
+  pub orSame-none : orSame s none ≡ s
+  unfolding orSame
+  orSame-none = refl
+
+  pub orSame-some : (after : State) → orSame s (some after) ≡ after
+  unfolding orSame
+  orSame-some after = refl
+
+  pub run-end : run m s [] ≡ s
+  unfolding run
+  run-end = refl
+
+  pub run-next : (p : Step) (ps : List Step) → run m s (p ∷ ps) ≡ run m (orSame s (stepped m s p)) ps
+  unfolding run
+  run-next p ps = refl

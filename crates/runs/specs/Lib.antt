@@ -4,4 +4,6 @@ pub mod State  -- sessions and items, and what stands at the start
 pub mod Step  -- the six kinds of step, each with what it asks and what it does
 pub mod Run  -- runs of any length
 pub mod Grant  -- which grants fit a question
-pub mod Claims  -- what is proved of steps
+pub mod Reach  -- what sessions and items can come to have, with no run
+pub mod Outcome  -- what stands after some run, and leaks in few rows
+pub mod Claims  -- what is proved of steps and runs

@@ -34,8 +34,8 @@ def declared(crate):
 crates = sorted(os.listdir("crates"))
 names = {crate: declared(crate) for crate in crates}
 edits = {f"{crate}/{name[:-5]}" for crate in crates if os.path.isdir(f"crates/{crate}/must-fail") for name in os.listdir(f"crates/{crate}/must-fail")}
-sections = set(re.findall(r"^# ---- (.*?) ----$", read("tests/vectors/rules.txt"), re.M))
-claims = {f"{crate}::{name}" for crate in crates for path in files(f"crates/{crate}/specs", "Claims.antt") for name in re.findall(r"^abbrev pub ([A-Z]\w+) : Type", read(path), re.M)}
+sections = {name for table in ("rules", "steps") for name in re.findall(r"^# ---- (.*?) ----$", read(f"tests/vectors/{table}.txt"), re.M)}
+claims = {f"{crate}::{name}" for crate in crates for path in files(f"crates/{crate}/specs", "Claims.antt") for name in re.findall(r"^(?:abbrev pub|pub record) ([A-Z]\w+) : Type", read(path), re.M)}
 
 places, cited_edits, cited_names = set(), set(), set()
 for line in read("docs/MAP.md").split("\n"):

@@ -127,4 +127,5 @@ def main():
         out.write(f"{len(made)} cases\n")
 
 
-main()
+if __name__ == "__main__":
+    main()

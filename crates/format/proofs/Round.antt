@@ -104,6 +104,15 @@ module _ {A : Type 0} (f : Format A) (law : Lawful f) where
       )
 
   -- what writing refuses, its bytes are refused for
+  -- what was read has no fault
+  pub read-judged : (a : A) (s : List ℕ) (q : ℕ) → readFile f s ≡ ok a q → f .judge a ≡ none
+  unfolding readFile ended
+  read-judged a s q e =
+      then-ok (f .read s 0) _ a q e λ c p e₀ e₁.
+      then-ok (field (fill p) (eqb 0) 3 .read s p) _ a q e₁ λ x r e₂ e₃.
+      let (t₀, t₁, t₂) = tested-ok (eqb r (8 * length s)) 3 c r a q e₃ in
+      subst (λ (b : A). f .judge b ≡ none) t₁ (law .back c s 0 p (omega arith) e₀ .judged)
+
   pub write-refused : (a : A) (n : ℕ) → writeFile f a ≡ refused n → 0 < n → Fit (f .fields a) → BadAt (readFile f (packed (f .fields a))) n
   unfolding writeFile readFile
   write-refused a n e z h =

@@ -1,22 +1,23 @@
--- Laws of what nodes say. In order: a node by the tables of its operands, what it looks at of the nodes before it, and the answers of the
+-- Laws of what nodes say. In order: the operators that join, a node by the tables of its operands, what it looks at of the nodes before it, and the answers of the
 -- first nodes in an array: none, one more, all.
 use mathlib.Core.Path.{_≡_, refl, sym, ap, _∙_}
 use mathlib.Core.Bool.{Bool, false}
 use mathlib.Core.List.{List, [], _∷_, _++_}
-use Prim.Native.Nat.{ℕ, zero, suc, _+_, _-_, _*_, _<_}
+use Prim.Native.Nat.{ℕ, zero, suc, _+_, _-_, _*_, _≤_, _<_}
 use native.Mathlib.Decide.{decLt}
 use native.Mathlib.Numerals.{add-one}
 use native.Mathlib.Omega.{arith}
+use borrow.Author.Tests.{ne-eqb}
 use lib.ListN.{length, getD, set, replicate, length-append, List·getD-eq-default, List·getD-append}
 use lib.Seq.{getD-set-same, getD-set-other, getD-at}
 use Rattle.bits.specs.Packed.{tab}
 use Rattle.bits.proofs.Packed.{getD-tab}
 use Rattle.policy.specs.Policy.{Lists}
-use Rattle.policy.specs.Nodes.{firstOf, secondOf}
+use Rattle.policy.specs.Nodes.{opOf, firstOf, secondOf}
 use Rattle.policy.specs.Rules.{nodesOf}
 use Rattle.formulas.specs.Value.{operand, sizeOfOperand}
 use Rattle.formulas.specs.Meaning.{compared, nodeSays, said, holds}
-use Rattle.formulas.specs.Parts.{comparedBy, nodeOver, Said}
+use Rattle.formulas.specs.Parts.{comparedBy, joinedBy, joined, comparedOver, Said}
 use Rattle.formulas.specs.declared.Holders.{Holders}
 
 first-lt : (x : ℕ) → firstOf x < 256
@@ -31,18 +32,57 @@ second-lt x = omega arith
 at-operand : (f : ℕ → ℕ) (t : List ℕ) (x : ℕ) → t ≡ tab f 0 256 → x < 256 → getD t x 0 ≡ f x
 at-operand f t x e h = ap (λ (l : List ℕ). getD l x 0) e ∙ getD-tab f 0 256 x 0 h ∙ ap f (omega arith)
 
+-- which operators join answers
+joined-five : (op : ℕ) (x y p q : Bool) → op < 5 → joinedBy op x y p ≡ joinedBy op x y q
+unfolding joinedBy
+joined-five zero x y p q h = refl
+joined-five (suc zero) x y p q h = refl
+joined-five (suc (suc zero)) x y p q h = refl
+joined-five (suc (suc (suc zero))) x y p q h = refl
+joined-five (suc (suc (suc (suc zero)))) x y p q h = refl
+joined-five (suc (suc (suc (suc (suc op))))) x y p q h = absurd (omega arith)
+
+module _ (before : List Bool) (node : ℕ) where
+  pub joined-below : (p q : Bool) → opOf node < 5 → joined before node p ≡ joined before node q
+  unfolding joined
+  joined-below p q h = joined-five (opOf node) _ _ p q h
+
+  pub joined-above : (p : Bool) → 5 ≤ opOf node → joined before node p ≡ p
+  unfolding joined joinedBy
+  joined-above p h =
+      simp (
+        ne-eqb (opOf node) 0 (λ e. omega arith),
+        ne-eqb (opOf node) 1 (λ e. omega arith),
+        ne-eqb (opOf node) 2 (λ e. omega arith),
+        ne-eqb (opOf node) 3 (λ e. omega arith),
+        ne-eqb (opOf node) 4 (λ e. omega arith),
+      )
+
 module _ (c : Lists) (v : Holders) where
-  -- over the right tables a node says what it says of the values
-  pub over-tables : (values sizes : List ℕ) (before : List Bool) (node : ℕ) → values ≡ tab (operand c v) 0 256 → sizes ≡ tab (sizeOfOperand c) 0 256 →
-      nodeOver values sizes before node ≡ nodeSays c v before node
-  unfolding nodeOver nodeSays compared comparedBy
-  over-tables values sizes before node e d =
+  -- a node says what it joins, or compares
+  pub says-joined : (before : List Bool) (node : ℕ) → joined before node (compared c v (opOf node) (firstOf node) (secondOf node)) ≡ nodeSays c v before node
+  unfolding nodeSays joined joinedBy
+  says-joined before node = refl
+
+  -- over the right tables a comparison says what it says of the values
+  over-tables : (values sizes : List ℕ) (node : ℕ) → values ≡ tab (operand c v) 0 256 → sizes ≡ tab (sizeOfOperand c) 0 256 →
+      comparedOver values sizes node ≡ compared c v (opOf node) (firstOf node) (secondOf node)
+  unfolding comparedOver compared comparedBy
+  over-tables values sizes node e d =
       simp (
         at-operand (operand c v) values (firstOf node) e (first-lt node),
         at-operand (operand c v) values (secondOf node) e (second-lt node),
         at-operand (sizeOfOperand c) sizes (firstOf node) d (first-lt node),
         at-operand (sizeOfOperand c) sizes (secondOf node) d (second-lt node),
       )
+
+  pub says-over : (values sizes : List ℕ) (before : List Bool) (node : ℕ) → values ≡ tab (operand c v) 0 256 → sizes ≡ tab (sizeOfOperand c) 0 256 →
+      joined before node (comparedOver values sizes node) ≡ nodeSays c v before node
+  says-over values sizes before node e d = ap (joined before node) (over-tables values sizes node e d) ∙ says-joined before node
+
+  -- a node that joins looks at no operand
+  pub says-plain : (before : List Bool) (node : ℕ) → opOf node < 5 → joined before node false ≡ nodeSays c v before node
+  says-plain before node h = joined-below before node false (compared c v (opOf node) (firstOf node) (secondOf node)) h ∙ says-joined before node
 
   -- a node looks at the answers before it one by one
   says-ext : (l m : List Bool) (node : ℕ) → ((j : ℕ) → getD l j false ≡ getD m j false) → nodeSays c v l node ≡ nodeSays c v m node

@@ -1,2 +1,2 @@
 pub mod Laws  -- what nodes say, one after another
-pub mod TableLaws  -- tables of all operands, filled in holder by holder
+pub mod TableLaws  -- tables of all operands, filled in class by class

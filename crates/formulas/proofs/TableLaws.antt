@@ -1,12 +1,14 @@
--- Laws of tables of operands. In order: a place that is stored; the places of one holder filled in from the last to the first; a table whose
--- first holders are filled in: none, one more, all; an attribute's part and its list's size; the width of the later attributes.
+-- Laws of tables of operands. In order: a place that is stored for two holders; their places filled in from the last to the first; a table whose
+-- first holders are filled in: none, one or two more, all; an attribute's part and its list's size; the width of the later attributes.
 use mathlib.Core.Path.{_≡_, refl, sym, ap, _∙_, subst}
 use mathlib.Core.List.{List}
 use Prim.Native.Nat.{ℕ, suc, _+_, _*_, _/_, _%_, _^_, _<_, _≤_}
-use native.Mathlib.Decide.{decLt}
+use mathlib.Core.Bool.{cond}
+use native.Mathlib.Decide.{decLt, ℕ-discrete}
 use native.Mathlib.Numerals.{add-one}
 use native.Mathlib.Omega.{arith}
 use borrow.Author.Tests.{lt-ltb, le-ltb, ne-eqb}
+use lib.Dec.{eqb}
 use lib.ListN.{length, getD, set, drop, replicate, length-set, length-replicate, getD-replicate, drop-of-length-le, List·getD-eq-default}
 use lib.Seq.{getD-set-same, getD-set-other, ext-getD, drop-cons}
 use Rattle.bits.specs.Packed.{tab}
@@ -21,89 +23,108 @@ use Rattle.formulas.specs.Value.{attrOf, partOf, heldBy, operand, sizeOf
 use Rattle.formulas.specs.Parts.{placed, Filling, Table, valueAt, sizeAt}
 use Rattle.formulas.specs.declared.Holders.{Holders}
 
-module _ (t : List ℕ) (h k x : ℕ) where
-  pub placed-in : k < 32 → placed t h k x ≡ set t (32 * h + k) x
+module _ (t : List ℕ) (g h k x y : ℕ) where
+  pub placed-in : k < 32 → placed t g h k x y ≡ set (set t (32 * g + k) x) (32 * h + k) y
   unfolding placed
   placed-in l = simp (lt-ltb k 32 l)
 
-  pub placed-past : 32 ≤ k → placed t h k x ≡ t
+  pub placed-past : 32 ≤ k → placed t g h k x y ≡ t
   unfolding placed
   placed-past l = simp (le-ltb k 32 l)
 
-  placed-length : length (placed t h k x) ≡ length t
+  placed-length : length (placed t g h k x y) ≡ length t
   placed-length = go (decLt k 32)
     where
-      go : Dec (k < 32) → length (placed t h k x) ≡ length t
-      go (yes l) = ap length (placed-in l) ∙ length-set t (32 * h + k) x
+      go : Dec (k < 32) → length (placed t g h k x y) ≡ length t
+      go (yes l) = ap length (placed-in l) ∙ length-set (set t (32 * g + k) x) (32 * h + k) y ∙ length-set t (32 * g + k) x
       go (no l) = ap length (placed-past (omega arith))
 
-  -- the place itself
-  placed-same : (y : ℕ) → y < length t → holderOf y ≡ h → placeOf y ≡ k → getD (placed t h k x) y 0 ≡ x
+  -- the place of the holder h
+  placed-last : (z : ℕ) → z < length t → holderOf z ≡ h → placeOf z ≡ k → getD (placed t g h k x y) z 0 ≡ y
   unfolding holderOf placeOf
-  placed-same y l e d =
-      let z : y ≡ 32 * h + k = omega arith in
-      ap (λ (m : List ℕ). getD m y 0) (placed-in (omega arith)) ∙ ap (λ (j : ℕ). getD (set t (32 * h + k) x) j 0) z
-      ∙ getD-set-same t (32 * h + k) x 0 (omega arith)
+  placed-last z l e d =
+      let i : z ≡ 32 * h + k = omega arith in
+      ap (λ (m : List ℕ). getD m z 0) (placed-in (omega arith)) ∙ ap (λ (j : ℕ). getD (set (set t (32 * g + k) x) (32 * h + k) y) j 0) i
+      ∙ getD-set-same (set t (32 * g + k) x) (32 * h + k) y 0 (omega (arith, length-set t (32 * g + k) x))
+
+  -- that of the holder g, where it is another
+  placed-first : (z : ℕ) → z < length t → holderOf z ≡ g → (g ≡ h → ⊥) → placeOf z ≡ k → getD (placed t g h k x y) z 0 ≡ x
+  unfolding holderOf placeOf
+  placed-first z l e n d =
+      let i : z ≡ 32 * g + k = omega arith in
+      ap (λ (m : List ℕ). getD m z 0) (placed-in (omega arith)) ∙ getD-set-other (set t (32 * g + k) x) (32 * h + k) z y 0 (λ o. n (omega arith))
+      ∙ ap (λ (j : ℕ). getD (set t (32 * g + k) x) j 0) i ∙ getD-set-same t (32 * g + k) x 0 (omega arith)
 
   -- any other
-  placed-other : (y : ℕ) → (holderOf y ≡ h → placeOf y ≡ k → ⊥) → getD (placed t h k x) y 0 ≡ getD t y 0
+  placed-other : (z : ℕ) → (holderOf z ≡ g → placeOf z ≡ k → ⊥) → (holderOf z ≡ h → placeOf z ≡ k → ⊥) → getD (placed t g h k x y) z 0 ≡ getD t z 0
   unfolding holderOf placeOf
-  placed-other y n = go (decLt k 32)
+  placed-other z m n = go (decLt k 32)
     where
-      go : Dec (k < 32) → getD (placed t h k x) y 0 ≡ getD t y 0
+      go : Dec (k < 32) → getD (placed t g h k x y) z 0 ≡ getD t z 0
       go (yes l) =
-          ap (λ (m : List ℕ). getD m y 0) (placed-in l) ∙ getD-set-other t (32 * h + k) y x 0 (λ e. n (omega arith) (omega arith))
-      go (no l) = ap (λ (m : List ℕ). getD m y 0) (placed-past (omega arith))
+          ap (λ (m : List ℕ). getD m z 0) (placed-in l)
+          ∙ getD-set-other (set t (32 * g + k) x) (32 * h + k) z y 0 (λ e. n (omega arith) (omega arith))
+          ∙ getD-set-other t (32 * g + k) z x 0 (λ e. m (omega arith) (omega arith))
+      go (no l) = ap (λ (m : List ℕ). getD m z 0) (placed-past (omega arith))
 
 place-lt : (x : ℕ) → placeOf x < 32
 unfolding placeOf
 place-lt x = omega arith
 
-module _ (part : ℕ → ℕ) (h : ℕ) (old : List ℕ) where
-  pub fill-start : (k : ℕ) → ((p : ℕ) → k ≤ p → p < 32 → part p ≡ 0) → Filling part h k old old
+module _ (part : ℕ → ℕ → ℕ) (g h : ℕ) (old : List ℕ) where
+  pub fill-start : (k : ℕ) → ((i p : ℕ) → k ≤ p → p < 32 → part i p ≡ 0) → Filling part g h k old old
   fill-start k none =
-      record { same-length = refl; inside = λ x l e m z. z ∙ sym (none (placeOf x) m (place-lt x)); outside = λ x n. refl }
+      record { same-length = refl; inside = λ x l a b m z. z ∙ sym (none (holderOf x) (placeOf x) m (place-lt x)); outside = λ x n. refl }
 
-  pub fill-next : (k j y : ℕ) (new after : List ℕ) → Filling part h k old new → k ≡ j + 1 → y ≡ part j → after ≡ placed new h j y → Filling part h j old after
-  fill-next k j y new after f e d is =
+  pub fill-next : (k j y z : ℕ) (new after : List ℕ) → h ≤ g + 1 → g ≤ h → Filling part g h k old new → k ≡ j + 1 → ((g ≡ h → ⊥) → y ≡ part g j) → z ≡ part h j →
+      after ≡ placed new g h j y z → Filling part g h j old after
+  fill-next k j y z new after near order f e first last is =
       rw is
       record {
-        same-length = placed-length new h j y ∙ f .same-length;
-        inside = λ x l m n z. go x l m n z (decLt j (placeOf x));
+        same-length = placed-length new g h j y z ∙ f .same-length;
+        inside = λ x l a b m n. go x l a b m n (decLt j (placeOf x)) (ℕ-discrete (holderOf x) h);
         outside =
             λ x n.
-            placed-other new h j y x (λ m o. let g = n m in absurd (omega arith))
-            ∙ f .outside x (λ m. let g = n m in omega arith);
+            placed-other new g h j y z x (λ a o. let q = n (omega arith) (omega arith) in absurd (omega arith)) (λ a o. let q = n (omega arith) (omega arith) in absurd (omega arith))
+            ∙ f .outside x (λ a b. let q = n a b in omega arith);
       }
     where
-      go : (x : ℕ) → x < length old → holderOf x ≡ h → j ≤ placeOf x → getD old x 0 ≡ 0 → Dec (j < placeOf x) → getD (placed new h j y) x 0 ≡ part (placeOf x)
-      go x l m n z (yes g) = placed-other new h j y x (λ _ o. omega arith) ∙ f .inside x l m (omega arith) z
-      go x l m n z (no g) =
+      go : (x : ℕ) → x < length old → g ≤ holderOf x → holderOf x ≤ h → j ≤ placeOf x → getD old x 0 ≡ 0 → Dec (j < placeOf x) → Dec (holderOf x ≡ h) →
+          getD (placed new g h j y z) x 0 ≡ part (holderOf x) (placeOf x)
+      go x l a b m n (yes q) _ = placed-other new g h j y z x (λ _ o. omega arith) (λ _ o. omega arith) ∙ f .inside x l a b (omega arith) n
+      go x l a b m n (no q) (yes i) =
           let o : placeOf x ≡ j = omega arith in
-          placed-same new h j y x (omega (arith, f .same-length)) m o ∙ d ∙ ap part (sym o)
+          placed-last new g h j y z x (omega (arith, f .same-length)) i o ∙ last ∙ sym (rw (i, o) refl)
+      go x l a b m n (no q) (no i) =
+          let o : placeOf x ≡ j = omega arith in
+          let w : holderOf x ≡ g = omega arith in
+          let d : g ≡ h → ⊥ = λ u. i (omega arith) in
+          placed-first new g h j y z x (omega (arith, f .same-length)) w d o ∙ first d ∙ sym (rw (w, o) refl)
 
-  pub fill-all : (k : ℕ) (new : List ℕ) → Filling part h k old new → k ≡ 0 → Filling part h 0 old new
-  fill-all k new f e = subst (λ (j : ℕ). Filling part h j old new) e f
+  pub fill-end : (k : ℕ) (new : List ℕ) → Filling part g h k old new → k ≡ 0 → Filling part g h 0 old new
+  fill-end k new f e = subst (λ (j : ℕ). Filling part g h j old new) e f
+
+pub zeros-length : (t : List ℕ) → t ≡ replicate 256 0 → length t ≡ 256
+zeros-length t e = ap length e ∙ length-replicate {A = ℕ} 256 0
 
 module _ (part : ℕ → ℕ → ℕ) where
   pub table-start : Table part 0 (replicate 256 0)
   table-start =
       record { size = length-replicate {A = ℕ} 256 0; done = λ x l h. absurd (omega arith); rest = λ x l h. getD-replicate 256 x 0 0 l }
 
-  pub table-next : (h k : ℕ) (g : ℕ → ℕ) (t u : List ℕ) → k ≡ h + 1 → Table part h t → Filling g h 0 t u → ((p : ℕ) → g p ≡ part h p) → Table part k u
-  table-next h k g t u e a f same =
+  pub table-next : (g h k : ℕ) (q : ℕ → ℕ → ℕ) (t u : List ℕ) → k ≡ h + 1 → g ≤ h → Table part g t → Filling q g h 0 t u → ((i p : ℕ) → g ≤ i → i ≤ h → q i p ≡ part i p) → Table part k u
+  table-next g h k q t u e order a f same =
       record {
         size = f .same-length ∙ a .size;
-        done = λ x l m. go x l m (decLt (holderOf x) h);
-        rest = λ x l m. f .outside x (λ n. absurd (omega arith)) ∙ a .rest x l (omega arith);
+        done = λ x l m. go x l m (decLt (holderOf x) g);
+        rest = λ x l m. f .outside x (λ n o. absurd (omega arith)) ∙ a .rest x l (omega arith);
       }
     where
-      go : (x : ℕ) → x < 256 → holderOf x < k → Dec (holderOf x < h) → getD u x 0 ≡ part (holderOf x) (placeOf x)
-      go x l m (yes n) = f .outside x (λ o. absurd (omega arith)) ∙ a .done x l n
+      go : (x : ℕ) → x < 256 → holderOf x < k → Dec (holderOf x < g) → getD u x 0 ≡ part (holderOf x) (placeOf x)
+      go x l m (yes n) = f .outside x (λ o r. absurd (omega arith)) ∙ a .done x l n
       go x l m (no n) =
-          let o : holderOf x ≡ h = omega arith in
-          f .inside x (omega (arith, a .size)) o (omega arith) (a .rest x l (omega arith)) ∙ same (placeOf x)
-          ∙ ap (λ (i : ℕ). part i (placeOf x)) (sym o)
+          f .inside x (omega (arith, a .size)) (omega arith) (omega arith) (omega arith) (a .rest x l (omega arith))
+          ∙ same (holderOf x) (placeOf x) (omega arith) (omega arith)
 
   pub table-all : (h : ℕ) (t : List ℕ) (whole : ℕ → ℕ) → Table part h t → ((x : ℕ) → whole x ≡ part (holderOf x) (placeOf x)) →
       ((i p : ℕ) → h ≤ i → part i p ≡ 0) → t ≡ tab whole 0 256
@@ -164,7 +185,14 @@ pub size-at : (c : Class) (k : ℕ) → k < c .count → getD (c .sizes) k 0 ≡
 unfolding attrAt
 size-at c k h = sym (ap (λ (a : Attr). a .size) (attr-at c k h))
 
--- all operands, filled in one holder after another
+-- all operands, filled in one class after another
+
+one-of-two : (P : ℕ → Type 0) (g h : ℕ) → h ≤ g + 1 → P g → P h → (i : ℕ) → g ≤ i → i ≤ h → P i
+one-of-two P g h near a b i l m = go (ℕ-discrete i g)
+  where
+    go : Dec (i ≡ g) → P i
+    go (yes e) = subst P (sym e) a
+    go (no e) = let d : h ≡ i = omega arith in subst P d b
 
 module _ (c : Classes) (v : Holders) where
   operand-places : (x : ℕ) → operand (listsOf c) v x ≡ valueAt (listsOf c) v (holderOf x) (placeOf x)
@@ -175,27 +203,25 @@ module _ (c : Classes) (v : Holders) where
   unfolding valueAt
   value-none h k l = simp (le-ltb h 5 (omega arith), ne-eqb h 5 (λ e. omega arith))
 
-  pub all-values : (t₀ t₁ t₂ t₃ t₄ t₅ : List ℕ) →
-      Filling (λ k. partOf (attrsOf (c .user)) k (v .user)) 0 0 (replicate 256 0) t₀ →
-      Filling (λ k. partOf (attrsOf (c .session)) k (v .session)) 1 0 t₀ t₁ →
-      Filling (λ k. partOf (attrsOf (c .session)) k (v .newsession)) 2 0 t₁ t₂ →
-      Filling (λ k. partOf (attrsOf (c .item)) k (v .item)) 3 0 t₂ t₃ →
-      Filling (λ k. partOf (attrsOf (c .item)) k (v .newitem)) 4 0 t₃ t₄ →
-      Filling (λ k. k) 5 0 t₄ t₅ →
-      t₅ ≡ tab (operand (listsOf c) v) 0 256
+  pub all-values : (t t₀ t₁ t₂ t₃ : List ℕ) → t ≡ replicate 256 0 →
+      Filling (λ i k. partOf (attrsOf (c .user)) k (cond (eqb i 0) (v .user) (v .user))) 0 0 0 t t₀ →
+      Filling (λ i k. partOf (attrsOf (c .session)) k (cond (eqb i 2) (v .newsession) (v .session))) 1 2 0 t₀ t₁ →
+      Filling (λ i k. partOf (attrsOf (c .item)) k (cond (eqb i 4) (v .newitem) (v .item))) 3 4 0 t₁ t₂ →
+      Filling (λ i k. k) 5 5 0 t₂ t₃ →
+      t₃ ≡ tab (operand (listsOf c) v) 0 256
   unfolding valueAt listsOf ofHolder heldBy
-  all-values t₀ t₁ t₂ t₃ t₄ t₅ a b d e f g =
+  all-values t t₀ t₁ t₂ t₃ z a b d e =
       let p = valueAt (listsOf c) v in
-      table-all p 6 t₅ (operand (listsOf c) v)
-      (table-next p 5 6 _ t₄ t₅ refl
-      (table-next p 4 5 _ t₃ t₄ refl
-      (table-next p 3 4 _ t₂ t₃ refl
-      (table-next p 2 3 _ t₁ t₂ refl
-      (table-next p 1 2 _ t₀ t₁ refl (table-next p 0 1 _ (replicate 256 0) t₀ refl (table-start p) a (λ _. refl)) b (λ _. refl))
-      d (λ _. refl))
-      e (λ _. refl))
-      f (λ _. refl))
-      g (λ _. refl))
+      let s : Table p 0 t = rw z (table-start p) in
+      table-all p 6 t₃ (operand (listsOf c) v)
+      (table-next p 5 5 6 _ t₂ t₃ refl (omega arith)
+      (table-next p 3 4 5 _ t₁ t₂ refl (omega arith)
+      (table-next p 1 2 3 _ t₀ t₁ refl (omega arith)
+      (table-next p 0 0 1 _ t t₀ refl (omega arith) s a
+      (λ i k. one-of-two (λ i. partOf (attrsOf (c .user)) k (cond (eqb i 0) (v .user) (v .user)) ≡ p i k) 0 0 (omega arith) refl refl i))
+      b (λ i k. one-of-two (λ i. partOf (attrsOf (c .session)) k (cond (eqb i 2) (v .newsession) (v .session)) ≡ p i k) 1 2 (omega arith) refl refl i))
+      d (λ i k. one-of-two (λ i. partOf (attrsOf (c .item)) k (cond (eqb i 4) (v .newitem) (v .item)) ≡ p i k) 3 4 (omega arith) refl refl i))
+      e (λ i k. one-of-two (λ i. k ≡ p i k) 5 5 (omega arith) refl refl i))
       operand-places value-none
 
 module _ (c : Classes) where
@@ -207,22 +233,20 @@ module _ (c : Classes) where
   unfolding sizeAt
   size-none h k l = simp (le-ltb h 5 l)
 
-  pub all-sizes : (t₀ t₁ t₂ t₃ t₄ : List ℕ) →
-      Filling (λ k. attrOf (attrsOf (c .user)) k .size) 0 0 (replicate 256 0) t₀ →
-      Filling (λ k. attrOf (attrsOf (c .session)) k .size) 1 0 t₀ t₁ →
-      Filling (λ k. attrOf (attrsOf (c .session)) k .size) 2 0 t₁ t₂ →
-      Filling (λ k. attrOf (attrsOf (c .item)) k .size) 3 0 t₂ t₃ →
-      Filling (λ k. attrOf (attrsOf (c .item)) k .size) 4 0 t₃ t₄ →
-      t₄ ≡ tab (sizeOfOperand (listsOf c)) 0 256
+  pub all-sizes : (t t₀ t₁ t₂ : List ℕ) → t ≡ replicate 256 0 →
+      Filling (λ i k. attrOf (attrsOf (c .user)) k .size) 0 0 0 t t₀ →
+      Filling (λ i k. attrOf (attrsOf (c .session)) k .size) 1 2 0 t₀ t₁ →
+      Filling (λ i k. attrOf (attrsOf (c .item)) k .size) 3 4 0 t₁ t₂ →
+      t₂ ≡ tab (sizeOfOperand (listsOf c)) 0 256
   unfolding sizeAt listsOf ofHolder
-  all-sizes t₀ t₁ t₂ t₃ t₄ a b d e f =
+  all-sizes t t₀ t₁ t₂ z a b d =
       let p = sizeAt (listsOf c) in
-      table-all p 5 t₄ (sizeOfOperand (listsOf c))
-      (table-next p 4 5 _ t₃ t₄ refl
-      (table-next p 3 4 _ t₂ t₃ refl
-      (table-next p 2 3 _ t₁ t₂ refl
-      (table-next p 1 2 _ t₀ t₁ refl (table-next p 0 1 _ (replicate 256 0) t₀ refl (table-start p) a (λ _. refl)) b (λ _. refl))
-      d (λ _. refl))
-      e (λ _. refl))
-      f (λ _. refl))
+      let s : Table p 0 t = rw z (table-start p) in
+      table-all p 5 t₂ (sizeOfOperand (listsOf c))
+      (table-next p 3 4 5 _ t₁ t₂ refl (omega arith)
+      (table-next p 1 2 3 _ t₀ t₁ refl (omega arith)
+      (table-next p 0 0 1 _ t t₀ refl (omega arith) s a
+      (λ i k. one-of-two (λ i. attrOf (attrsOf (c .user)) k .size ≡ p i k) 0 0 (omega arith) refl refl i))
+      b (λ i k. one-of-two (λ i. attrOf (attrsOf (c .session)) k .size ≡ p i k) 1 2 (omega arith) refl refl i))
+      d (λ i k. one-of-two (λ i. attrOf (attrsOf (c .item)) k .size ≡ p i k) 3 4 (omega arith) refl refl i))
       size-places size-none

@@ -2,8 +2,10 @@
 ghost use mathlib.Core.Path.{_≡_};
 ghost use mathlib.Core.Bool.{false};
 ghost use Prim.Native.Nat.{_+_, _*_};
+ghost use lib.Dec.{leb};
 ghost use lib.ListN.{getD};
-ghost use Rattle.formulas.specs.Parts.{comparedBy, nodeOver};
+ghost use Rattle.policy.specs.Nodes.{opOf};
+ghost use Rattle.formulas.specs.Parts.{comparedBy, joined, comparedOver};
 use bits::member;
 use bits::proper;
 use bits::subset;
@@ -52,9 +54,16 @@ fn compare(op: u32, x: u64, m: u64, y: u64, n: u64) -> bool
     }
 }
 
-// What a node says, by the values and sizes of its operands and by what the nodes before it say.
-pub(super) fn says(values: &[u8], sizes: &[u8], before: &[bool], node: u32) -> bool
-    ensures { λ r. ⌜ r ≡ nodeOver (now (values .entry)) (now (sizes .entry)) (now (before .entry)) node ⌝ }
+// Whether a node is none of those that join answers: all that look at operands compare.
+pub(super) fn is_comparison(node: u32) -> bool
+    ensures { λ r. ⌜ r ≡ leb 5 (opOf node) ⌝ }
+{
+    5 <= node / 65536
+}
+
+// What a node that joins answers says, by those of the nodes before it.
+pub(super) fn joins(before: &[bool], node: u32) -> bool
+    ensures { λ r. ⌜ r ≡ joined (now (before .entry)) node false ⌝ }
 {
     let op = node / 65536;
     let a = (node / 256 % 256) as usize;
@@ -65,12 +74,33 @@ pub(super) fn says(values: &[u8], sizes: &[u8], before: &[bool], node: u32) -> b
         2 => !answer(before, a),
         3 => answer(before, a) & answer(before, b),
         4 => answer(before, a) | answer(before, b),
-        _ => compare(
-            op,
-            value(values, a),
-            value(sizes, a),
-            value(values, b),
-            value(sizes, b),
-        ),
+        _ => false,
+    }
+}
+
+// What a comparison says, by the values and sizes of its operands.
+fn compares(values: &[u8], sizes: &[u8], node: u32) -> bool
+    ensures { λ r. ⌜ r ≡ comparedOver (now (values .entry)) (now (sizes .entry)) node ⌝ }
+{
+    let op = node / 65536;
+    let a = (node / 256 % 256) as usize;
+    let b = (node % 256) as usize;
+    compare(
+        op,
+        value(values, a),
+        value(sizes, a),
+        value(values, b),
+        value(sizes, b),
+    )
+}
+
+// What a node says, by the values and sizes of its operands or by what the nodes before it say.
+pub(super) fn says(values: &[u8], sizes: &[u8], before: &[bool], node: u32) -> bool
+    ensures { λ r. ⌜ r ≡ joined (now (before .entry)) node (comparedOver (now (values .entry)) (now (sizes .entry)) node) ⌝ }
+{
+    if is_comparison(node) {
+        compares(values, sizes, node)
+    } else {
+        joins(before, node)
     }
 }

@@ -1,8 +1,10 @@
 // The number that each operand stands for, and the size of its list, for all 256 operands: 32 places for each of eight holders, the first
 // five of which have attributes, the sixth the constants, and the last two nothing.
 ghost use mathlib.Core.Path.{_≡_};
+ghost use mathlib.Core.Bool.{cond};
 ghost use Prim.Native.Nat.{_+_, _*_, _/_, _%_, _^_, _≤_};
-ghost use lib.ListN.{length};
+ghost use lib.Dec.{eqb};
+ghost use lib.ListN.{length, replicate};
 ghost use Rattle.bits.specs.Packed.{tab};
 ghost use Rattle.policy.specs.Rules.{attrsOf, listsOf};
 ghost use Rattle.formulas.specs.Value.{operand, sizeOfOperand, attrOf, partOf};
@@ -27,88 +29,70 @@ fn part(v: u8, shift: usize, bits: u8) -> u8
     x & ((1u8 << bits) - 1)
 }
 
-// x is stored at place k of holder h, where there is such a place.
-fn place(table: &mut [u8], h: usize, k: usize, x: u8)
-    requires { ⌜ 32 * h + 32 ≤ length (now table) ⌝ }
-    ensures { λ r. ⌜ now (table .exit) ≡ placed (now (table .entry)) h k x ⌝ }
+// x and y are stored at place k of the holders g and h, where there is such a place.
+fn place(table: &mut [u8], g: usize, h: usize, k: usize, x: u8, y: u8)
+    requires { ⌜ (g ≤ h) × (32 * h + 32 ≤ length (now table)) ⌝ }
+    ensures { λ r. ⌜ now (table .exit) ≡ placed (now (table .entry)) g h k x y ⌝ }
 {
     if 32 <= k {
         return;
     }
-    table[32 * h + k] = x;
+    table[32 * g + k] = x;
+    table[32 * h + k] = y;
 }
 
 // The constants are stored at their places.
 fn constants(table: &mut [u8])
     requires { ⌜ 192 ≤ length (now table) ⌝ }
-    ensures { λ r. ⌜ Filling (λ k. k) 5 0 (now (table .entry)) (now (table .exit)) ⌝ }
+    ensures { λ r. ⌜ Filling (λ i k. k) 5 5 0 (now (table .entry)) (now (table .exit)) ⌝ }
 {
     let mut k: u8 = 32;
     while 0 < k {
         k -= 1;
-        place(table, 5, k as usize, k);
+        place(table, 5, 5, k as usize, k, k);
     }
 }
 
-// The attributes' parts of v are stored at the places of holder h, the last attribute first.
-fn values_of(table: &mut [u8], h: usize, class: Class, v: u8)
-    requires { ⌜ 32 * h + 32 ≤ length (now table) ⌝ }
-    ensures { λ r. ⌜ Filling (λ k. partOf (attrsOf class) k v) h 0 (now (table .entry)) (now (table .exit)) ⌝ }
+// The attributes' parts of v and of w are stored at the places of the holders g and h, and the sizes of their lists, the last attribute
+// first. The holders are the same, or h is the one after g.
+fn fill(values: &mut [u8], sizes: &mut [u8], g: usize, h: usize, class: Class, v: u8, w: u8)
+    requires { ⌜ (g ≤ h) × (h ≤ g + 1) × (32 * h + 32 ≤ length (now values)) × (32 * h + 32 ≤ length (now sizes)) ⌝ }
+    ensures { λ r. ⌜ Filling (λ i k. partOf (attrsOf class) k (cond (eqb i h) w v)) g h 0 (now (values .entry)) (now (values .exit)) ⌝ }
+    ensures { λ r. ⌜ Filling (λ i k. attrOf (attrsOf class) k .size) g h 0 (now (sizes .entry)) (now (sizes .exit)) ⌝ }
 {
     let kinds = class.kinds;
-    let sizes = class.sizes;
+    let each = class.sizes;
     let mut shift: usize = 0;
     let mut k = class.count as usize;
     while 0 < k {
         k -= 1;
-        let bits = bits_for(byte_at(&kinds, k), byte_at(&sizes, k));
-        place(table, h, k, part(v, shift, bits));
+        let size = byte_at(&each, k);
+        let bits = bits_for(byte_at(&kinds, k), size);
+        place(values, g, h, k, part(v, shift, bits), part(w, shift, bits));
+        place(sizes, g, h, k, size, size);
         shift += bits as usize;
     }
 }
 
-// The sizes of the attributes' lists are stored at the places of holder h.
-fn sizes_of(table: &mut [u8], h: usize, class: Class)
-    requires { ⌜ 32 * h + 32 ≤ length (now table) ⌝ }
-    ensures { λ r. ⌜ Filling (λ k. attrOf (attrsOf class) k .size) h 0 (now (table .entry)) (now (table .exit)) ⌝ }
-{
-    let sizes = class.sizes;
-    let mut k = class.count as usize;
-    while 0 < k {
-        k -= 1;
-        place(table, h, k, byte_at(&sizes, k));
-    }
-}
-
-// The values of all operands.
-pub(super) fn operands(classes: Classes, holders: Holders) -> [u8; 256]
-    ensures { λ r. ⌜ r ≡ tab (operand (listsOf classes) holders) 0 256 ⌝ }
+// The values and sizes of all operands are stored.
+pub(super) fn fill_all(values: &mut [u8], sizes: &mut [u8], classes: Classes, holders: Holders)
+    requires { ⌜ (now values ≡ replicate 256 0) × (now sizes ≡ replicate 256 0) ⌝ }
+    ensures { λ r. ⌜ now (values .exit) ≡ tab (operand (listsOf classes) holders) 0 256 ⌝ }
+    ensures { λ r. ⌜ now (sizes .exit) ≡ tab (sizeOfOperand (listsOf classes)) 0 256 ⌝ }
 {
     let user = classes.user;
     let session = classes.session;
     let item = classes.item;
-    let mut table: [u8; 256] = [0; 256];
-    values_of(&mut table, 0, user, holders.user);
-    values_of(&mut table, 1, session, holders.session);
-    values_of(&mut table, 2, session, holders.newsession);
-    values_of(&mut table, 3, item, holders.item);
-    values_of(&mut table, 4, item, holders.newitem);
-    constants(&mut table);
-    table
-}
-
-// The sizes of the lists of all operands.
-pub(super) fn sizes(classes: Classes) -> [u8; 256]
-    ensures { λ r. ⌜ r ≡ tab (sizeOfOperand (listsOf classes)) 0 256 ⌝ }
-{
-    let user = classes.user;
-    let session = classes.session;
-    let item = classes.item;
-    let mut table: [u8; 256] = [0; 256];
-    sizes_of(&mut table, 0, user);
-    sizes_of(&mut table, 1, session);
-    sizes_of(&mut table, 2, session);
-    sizes_of(&mut table, 3, item);
-    sizes_of(&mut table, 4, item);
-    table
+    fill(values, sizes, 0, 0, user, holders.user, holders.user);
+    fill(
+        values,
+        sizes,
+        1,
+        2,
+        session,
+        holders.session,
+        holders.newsession,
+    );
+    fill(values, sizes, 3, 4, item, holders.item, holders.newitem);
+    constants(values);
 }

@@ -3,6 +3,10 @@ ghost use mathlib.Core.Path.{_≡_};
 ghost use lib.ListN.{length};
 ghost use Rattle.rules.specs.Answers.{reading, filled};
 ghost use Rattle.rights_c.specs.Numbers.{numberOf, rewritten, writeNumber, writeLength};
+ghost use Rattle.monitor.specs.Lent.{lentAs};
+ghost use Rattle.rights_c.specs.Steps.{outcomeNumber, hostStarted, hostStepped};
+use monitor::Next;
+use monitor::Outcome;
 use rules::Reading;
 use rules::Written;
 
@@ -40,6 +44,66 @@ pub extern "C" fn rights_write_back(file: &[u8], out: &mut [u8], size: &mut usiz
                     *size = n;
                     0
                 }
+            }
+        }
+    }
+}
+
+// Starts a live state: 0 and the starting cells and next numbers written, or the first number 1 to 8, or 15; then nothing changes.
+#[no_mangle]
+pub extern "C" fn rights_start(
+    file: &[u8],
+    sessions: &mut [u64],
+    items: &mut [u64],
+    session: &mut u64,
+    item: &mut u64,
+) -> u32
+    ensures { λ r. ⌜ r ≡ outcomeNumber (hostStarted (reading (now (file .entry))) (lentAs (now (sessions .entry)) (now (items .entry)) record { session = now (session .entry); item = now (item .entry) }) .outcome) ⌝ }
+    ensures { λ r. ⌜ lentAs (now (sessions .exit)) (now (items .exit)) record { session = now (session .exit); item = now (item .exit) } ≡ hostStarted (reading (now (file .entry))) (lentAs (now (sessions .entry)) (now (items .entry)) record { session = now (session .entry); item = now (item .entry) }) .lent ⌝ }
+{
+    let s = monitor::start(file, sessions, items);
+    let outcome = s.outcome;
+    match outcome {
+        Outcome::Refused(n) => n as u32,
+        Outcome::Done => {
+            let next = s.next;
+            *session = next.session;
+            *item = next.item;
+            0
+        }
+    }
+}
+
+// Carries out a step on a live state: 0, or the first number 1 to 8 of the file, or 12 to 16 of the row; then nothing changes.
+#[no_mangle]
+pub extern "C" fn rights_step(
+    file: &[u8],
+    sessions: &mut [u64],
+    items: &mut [u64],
+    session: &mut u64,
+    item: &mut u64,
+    row: u64,
+) -> u32
+    ensures { λ r. ⌜ r ≡ outcomeNumber (hostStepped (reading (now (file .entry))) (lentAs (now (sessions .entry)) (now (items .entry)) record { session = now (session .entry); item = now (item .entry) }) row .outcome) ⌝ }
+    ensures { λ r. ⌜ lentAs (now (sessions .exit)) (now (items .exit)) record { session = now (session .exit); item = now (item .exit) } ≡ hostStepped (reading (now (file .entry))) (lentAs (now (sessions .entry)) (now (items .entry)) record { session = now (session .entry); item = now (item .entry) }) row .lent ⌝ }
+{
+    let p = rules::read_rules(file);
+    let answer = p.answer;
+    match answer {
+        Reading::Refused(n) => n as u32,
+        Reading::Accepted => {
+            let next = Next {
+                session: *session,
+                item: *item,
+            };
+            let s = monitor::step_at(p.rules, sessions, items, next, row);
+            let after = s.next;
+            *session = after.session;
+            *item = after.item;
+            let outcome = s.outcome;
+            match outcome {
+                Outcome::Done => 0,
+                Outcome::Refused(n) => n as u32,
             }
         }
     }

@@ -1,5 +1,6 @@
 -- in reading order
 pub mod Model  -- what rules allow, whatever they are
+pub mod Edge  -- what rules allow, as tests
 pub mod State  -- sessions and items, and what stands at the start
 pub mod Step  -- the six kinds of step, each with what it asks and what it does
 pub mod Run  -- runs of any length

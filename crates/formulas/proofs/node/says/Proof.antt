@@ -1,103 +1,33 @@
--- `formulas::node::says` meets its contract: an arm for each logical operator, and a comparison for any other.
-use borrow.Author.Tests.{ne-eqb}
-use Rattle.policy.specs.Nodes.{opOf, firstOf, secondOf}
-use Rattle.formulas.specs.Parts.{nodeOver}
+-- `formulas::node::says` meets its contract: the operators from 5 on join nothing, and those below compare nothing.
+use mathlib.Core.Path.{sym, _∙_}
+use borrow.Author.Tests.{leb-true, leb-false}
+use Rattle.policy.specs.Nodes.{opOf}
+use Rattle.formulas.proofs.Laws.{joined-below, joined-above}
 use borrow.Author.Needs.{needs}
 use Rattle.formulas.proofs.node.says.Statement.{statement}
 use Rattle.formulas.proofs.node.says.Tie as tie
 
-cast-a : tie.Need-cast-a
-cast-a c = search needs
+is-comparison-requires : tie.Need-is-comparison-requires
+is-comparison-requires c κs = search needs
 
-cast-b : tie.Need-cast-b
-cast-b c = search needs
+compares-requires : tie.Need-compares-requires
+compares-requires c κs = search needs
 
-answer-requires : tie.Need-answer-requires
-answer-requires c κs = search needs
-
-answer-requires-2 : tie.Need-answer-requires-2
-answer-requires-2 c κs = search needs
-
-answer-requires-3 : tie.Need-answer-requires-3
-answer-requires-3 c κs = search needs
-
-answer-requires-4 : tie.Need-answer-requires-4
-answer-requires-4 c κs = search needs
-
-answer-requires-5 : tie.Need-answer-requires-5
-answer-requires-5 c κs = search needs
-
-value-requires : tie.Need-value-requires
-value-requires c κs = search needs
-
-value-requires-2 : tie.Need-value-requires-2
-value-requires-2 c κs = search needs
-
-value-requires-3 : tie.Need-value-requires-3
-value-requires-3 c κs = search needs
-
-value-requires-4 : tie.Need-value-requires-4
-value-requires-4 c κs = search needs
-
-compare-requires : tie.Need-compare-requires
-compare-requires c κs = search needs
+joins-requires : tie.Need-joins-requires
+joins-requires c κs = search needs
 
 returns : tie.Need-returns
-unfolding nodeOver opOf firstOf secondOf
-returns c = simp (c .match .keys1)
+returns c =
+    let a = c .before .before .before .before .before .before .args in
+    c .compares .ensures
+    ∙ sym (joined-above (a .before .now) (a .node) _ (leb-true 5 (opOf (a .node)) (sym (c .before .before .is-comparison .ensures) ∙ c .before .if1 .taken)))
 
 returns-2 : tie.Need-returns-2
-unfolding nodeOver opOf firstOf secondOf
-returns-2 c = simp (c .match .keys2)
-
-returns-3 : tie.Need-returns-3
-unfolding nodeOver opOf firstOf secondOf
-returns-3 c = simp (c .before .match .keys3, c .answer .ensures)
-
-returns-4 : tie.Need-returns-4
-unfolding nodeOver opOf firstOf secondOf
-returns-4 c = simp (c .before .before .match .keys4, c .before .answer2 .ensures, c .answer3 .ensures)
-
-returns-5 : tie.Need-returns-5
-unfolding nodeOver opOf firstOf secondOf
-returns-5 c = simp (c .before .before .match .keys5, c .before .answer4 .ensures, c .answer5 .ensures)
-
-returns-6 : tie.Need-returns-6
-unfolding nodeOver opOf firstOf secondOf
-returns-6 c =
-    let m = c .before .before .before .before .before .match .rest in
-    simp (
-      ne-eqb _ _ (m .1),
-      ne-eqb _ _ (m .0 .1),
-      ne-eqb _ _ (m .0 .0 .1),
-      ne-eqb _ _ (m .0 .0 .0 .1),
-      ne-eqb _ _ (m .0 .0 .0 .0 .1),
-      c .compare .ensures,
-      c .before .value4 .ensures,
-      c .before .before .value3 .ensures,
-      c .before .before .before .value2 .ensures,
-      c .before .before .before .before .value .ensures,
-    )
+returns-2 c =
+    let a = c .before .before .before .before .before .before .args in
+    c .joins .ensures
+    ∙ joined-below (a .before .now) (a .node) _ _ (leb-false 5 (opOf (a .node)) (sym (c .before .before .is-comparison .ensures) ∙ c .before .if1 .left))
 
 pub says-spec : {M : Type 1} → statement M
 says-spec =
-    tie.close
-    (tie.spec
-    cast-a
-    cast-b
-    answer-requires
-    answer-requires-2
-    answer-requires-3
-    answer-requires-4
-    answer-requires-5
-    value-requires
-    value-requires-2
-    value-requires-3
-    value-requires-4
-    compare-requires
-    returns
-    returns-2
-    returns-3
-    returns-4
-    returns-5
-    returns-6)
+    tie.close (tie.spec is-comparison-requires compares-requires joins-requires returns returns-2)

@@ -1,0 +1,70 @@
+-- Laws of the model, for callers. In order: of rules in memory its counts and the values in the lists; of any policy what each formula is
+-- asked, and that listed values are bytes.
+use mathlib.Core.Path.{_≡_, refl, ap}
+use mathlib.Core.Bool.{Bool, true}
+use Prim.Native.Nat.{ℕ, _+_, _<_}
+use lib.ListN.{getD}
+use Rattle.policy.specs.Policy.{Policy}
+use Rattle.policy.specs.Rules.{attrsOf, listsOf, valuesOf, policyOf}
+use Rattle.policy.specs.declared.Rules.{Rules}
+use Rattle.policy.proofs.Laws.{values-length}
+use Rattle.lists.specs.Lists.{listed}
+use Rattle.lists.proofs.Laws.{listed-byte}
+use Rattle.allowed.specs.Allowed.{says, opening, changing, making, modifying, accessing, userValue, modelOf}
+
+module _ (r : Rules) where
+  pub model-users : modelOf (policyOf r) .users ≡ r .users .count
+  unfolding modelOf policyOf
+  model-users = values-length (r .users)
+
+  pub model-permissions : modelOf (policyOf r) .permissions ≡ r .permissions
+  unfolding modelOf policyOf
+  model-permissions = refl
+
+  pub model-session-value : modelOf (policyOf r) .sessionValue ≡ listed (attrsOf (r .classes .session))
+  unfolding modelOf policyOf listsOf
+  model-session-value = refl
+
+  pub model-item-value : modelOf (policyOf r) .itemValue ≡ listed (attrsOf (r .classes .item))
+  unfolding modelOf policyOf listsOf
+  model-item-value = refl
+
+  pub model-session-at : (v : ℕ) → modelOf (policyOf r) .sessionValue v ≡ listed (attrsOf (r .classes .session)) v
+  model-session-at v = ap (λ (g : ℕ → Bool). g v) model-session-value
+
+  pub model-item-at : (o : ℕ) → modelOf (policyOf r) .itemValue o ≡ listed (attrsOf (r .classes .item)) o
+  model-item-at o = ap (λ (g : ℕ → Bool). g o) model-item-value
+
+  pub model-user-value : (u : ℕ) → userValue (policyOf r) u ≡ getD (valuesOf (r .users)) u 0
+  unfolding userValue policyOf
+  model-user-value u = refl
+
+module _ (p : Policy) where
+  pub model-may-open : (u v : ℕ) → modelOf p .mayOpen u v ≡ says p 0 (opening (userValue p u) v)
+  unfolding modelOf
+  model-may-open u v = refl
+
+  pub model-may-change : (u v w : ℕ) → modelOf p .mayChange u v w ≡ says p 1 (changing (userValue p u) v w)
+  unfolding modelOf
+  model-may-change u v w = refl
+
+  pub model-may-make : (v o : ℕ) → modelOf p .mayMake v o ≡ says p 2 (making v o)
+  unfolding modelOf
+  model-may-make v o = refl
+
+  pub model-may-modify : (v o n : ℕ) → modelOf p .mayModify v o n ≡ says p 3 (modifying v o n)
+  unfolding modelOf
+  model-may-modify v o n = refl
+
+  pub model-may-access : (k v o : ℕ) → modelOf p .mayAccess k v o ≡ says p (4 + k) (accessing v o)
+  unfolding modelOf
+  model-may-access k v o = refl
+
+  -- values in the lists are bytes
+  pub model-session-byte : (v : ℕ) → modelOf p .sessionValue v ≡ true → v < 256
+  unfolding modelOf
+  model-session-byte v = listed-byte (p .lists .ofSession) v
+
+  pub model-item-byte : (o : ℕ) → modelOf p .itemValue o ≡ true → o < 256
+  unfolding modelOf
+  model-item-byte o = listed-byte (p .lists .ofItem) o

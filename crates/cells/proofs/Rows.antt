@@ -1,0 +1,63 @@
+-- Laws of rows. In order: rows with equal parts; the parts as shifts and masks give them; from parts to a row and back; the row as a sum; a row's
+-- step.
+use mathlib.Core.Path.{_≡_, refl}
+use Prim.Native.Nat.{ℕ, _+_, _*_, _/_, _%_, _^_, _<_}
+use native.Mathlib.Nat.{mod-lt, mod-eq-of-lt}
+use native.Mathlib.Omega.{arith}
+use lib.Bits.{bitAnd, and-mask}
+use lib.Pow.{pow-pos}
+use Rattle.cells.specs.Row.{partsOf, bitsOf, stepOf}
+use Rattle.cells.specs.Claims.{FitsRow}
+use Rattle.cells.specs.declared.row.Row.{Row}
+
+row-ext : (a b : Row) → a .kind ≡ b .kind → a .actor ≡ b .actor → a .target ≡ b .target → a .value ≡ b .value → a .spare ≡ b .spare → a ≡ b
+row-ext a b k c t v s = λ i. record { kind = k i; actor = c i; target = t i; value = v i; spare = s i }
+
+-- the parts of a row, as shifts and masks give them
+pub parts-masked : (x : ℕ) →
+    Path Row
+    record { kind = x / 2 ^ 60; actor = bitAnd (x / 2 ^ 40) 1048575; target = bitAnd (x / 2 ^ 20) 1048575; value = bitAnd (x / 2 ^ 8) 4095; spare = bitAnd x 255 }
+    (partsOf x)
+unfolding partsOf
+parts-masked x = row-ext _ _ refl (and-mask (x / 2 ^ 40) 20) (and-mask (x / 2 ^ 20) 20) (and-mask (x / 2 ^ 8) 12) (and-mask x 8)
+
+pub parts-again : (r : Row) → FitsRow r → partsOf (bitsOf r) ≡ r
+unfolding partsOf bitsOf
+parts-again r f =
+    let k = f .kind in
+    let a = f .actor in
+    let t = f .target in
+    let v = f .value in
+    let s = f .spare in
+    row-ext _ _ (omega arith) (omega arith) (omega arith) (omega arith) (omega arith)
+
+-- a number from its parts, the last first: what is left of each, and the part
+whole : (x a b c d s r q p : ℕ) → x ≡ a * 2 ^ 8 + s → a ≡ b * 2 ^ 12 + r → b ≡ c * 2 ^ 20 + q → c ≡ d * 2 ^ 20 + p →
+    d * 2 ^ 60 + p * 2 ^ 40 + q * 2 ^ 20 + r * 2 ^ 8 + s ≡ x
+whole x a b c d s r q p e₀ e₁ e₂ e₃ = omega arith
+
+-- cut again to its bits, a part stays
+cut : (x w : ℕ) → x % 2 ^ w % 2 ^ w ≡ x % 2 ^ w
+cut x w = mod-eq-of-lt (mod-lt x (pow-pos w))
+
+pub row-again : (x : ℕ) → x < 2 ^ 64 → bitsOf (partsOf x) ≡ x
+unfolding partsOf bitsOf
+row-again x h =
+    let k : x / 2 ^ 60 % 2 ^ 4 ≡ x / 2 ^ 60 = omega arith in
+    simp (k, cut (x / 2 ^ 40) 20, cut (x / 2 ^ 20) 20, cut (x / 2 ^ 8) 12, cut x 8)
+    (whole x (x / 2 ^ 8) (x / 2 ^ 20) (x / 2 ^ 40) (x / 2 ^ 60) (x % 2 ^ 8) (x / 2 ^ 8 % 2 ^ 12) (x / 2 ^ 20 % 2 ^ 20) (x / 2 ^ 40 % 2 ^ 20)
+    (omega arith) (omega arith) (omega arith) (omega arith))
+
+pub parts-fit : (x : ℕ) → x < 2 ^ 64 → FitsRow (partsOf x)
+unfolding partsOf
+parts-fit x h = record { kind = omega arith; actor = omega arith; target = omega arith; value = omega arith; spare = omega arith }
+
+pub bits-are : (r : Row) →
+    r .kind % 16 * 1152921504606846976 + r .actor % 1048576 * 1099511627776 + r .target % 1048576 * 1048576 + r .value % 4096 * 256 + r .spare % 256
+    ≡ bitsOf r
+unfolding bitsOf
+bits-are r = refl
+
+pub step-is : (r : Row) → stepOf r ≡ record { kind = r .kind; actor = r .actor; target = r .target; value = r .value }
+unfolding stepOf
+step-is r = refl

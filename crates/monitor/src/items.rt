@@ -1,0 +1,141 @@
+// Steps on items: make, change, access. The acting session's cell is only read.
+ghost use mathlib.Core.Path.{_≡_};
+ghost use Rattle.policy.specs.Rules.{policyOf};
+ghost use Rattle.cells.specs.Row.{stepOf};
+ghost use Rattle.allowed.specs.Allowed.{modelOf};
+ghost use Rattle.monitor.specs.Lent.{leaves, lentAs};
+ghost use Rattle.monitor.specs.Step.{making, modifying, accessing};
+use super::Next;
+use super::Outcome;
+use super::Stepped;
+use super::numbers::is_left;
+use super::numbers::is_next;
+use super::refused;
+use allowed::may_access;
+use allowed::may_make;
+use allowed::may_modify;
+use cells::Row;
+use cells::item_at;
+use cells::item_cell;
+use cells::place;
+use cells::session_at;
+use lists::listed;
+use policy::Rules;
+
+// Makes an item with the next number.
+pub(super) fn make_item(
+    rules: Rules,
+    sessions: &[u64],
+    items: &mut [u64],
+    next: Next,
+    row: Row,
+) -> Stepped
+    ensures { λ r. ⌜ leaves (r .outcome) (r .next) (now (sessions .entry)) (now (items .exit)) ≡ making (modelOf (policyOf rules)) (lentAs (now (sessions .entry)) (now (items .entry)) next) (stepOf row) ⌝ }
+{
+    let number = next.item;
+    let maker = session_at(
+        rules.users.count,
+        rules.classes.session,
+        sessions,
+        next.session,
+        row.actor,
+    );
+    if !maker.there {
+        return refused(next, 13);
+    }
+    if !is_next(number, row.target) {
+        return refused(next, 13);
+    }
+    if !listed(rules.classes.item, row.value) {
+        return refused(next, 14);
+    }
+    if !is_left(items, number) {
+        return refused(next, 15);
+    }
+    let value = row.value as u8;
+    if !may_make(rules, maker.value, value) {
+        return refused(next, 16);
+    }
+    items[place(number)] = item_cell(value);
+    Stepped {
+        outcome: Outcome::Done,
+        next: Next {
+            session: next.session,
+            item: number + 1,
+        },
+    }
+}
+
+// Changes the value of an item.
+pub(super) fn change_item(
+    rules: Rules,
+    sessions: &[u64],
+    items: &mut [u64],
+    next: Next,
+    row: Row,
+) -> Stepped
+    ensures { λ r. ⌜ leaves (r .outcome) (r .next) (now (sessions .entry)) (now (items .exit)) ≡ modifying (modelOf (policyOf rules)) (lentAs (now (sessions .entry)) (now (items .entry)) next) (stepOf row) ⌝ }
+{
+    let changer = session_at(
+        rules.users.count,
+        rules.classes.session,
+        sessions,
+        next.session,
+        row.actor,
+    );
+    if !changer.there {
+        return refused(next, 13);
+    }
+    let held = item_at(rules.classes.item, items, next.item, row.target);
+    if !held.there {
+        return refused(next, 13);
+    }
+    if !listed(rules.classes.item, row.value) {
+        return refused(next, 14);
+    }
+    let value = row.value as u8;
+    if !may_modify(rules, changer.value, held.value, value) {
+        return refused(next, 16);
+    }
+    items[place(row.target)] = item_cell(value);
+    Stepped {
+        outcome: Outcome::Done,
+        next,
+    }
+}
+
+// Grants a permission on an item; changes nothing.
+pub(super) fn access_item(
+    rules: Rules,
+    sessions: &[u64],
+    items: &[u64],
+    next: Next,
+    row: Row,
+) -> Stepped
+    ensures { λ r. ⌜ leaves (r .outcome) (r .next) (now (sessions .entry)) (now (items .entry)) ≡ accessing (modelOf (policyOf rules)) (lentAs (now (sessions .entry)) (now (items .entry)) next) (stepOf row) ⌝ }
+{
+    let asker = session_at(
+        rules.users.count,
+        rules.classes.session,
+        sessions,
+        next.session,
+        row.actor,
+    );
+    if !asker.there {
+        return refused(next, 13);
+    }
+    let held = item_at(rules.classes.item, items, next.item, row.target);
+    if !held.there {
+        return refused(next, 13);
+    }
+    if rules.permissions as u64 <= row.value {
+        return refused(next, 13);
+    }
+    if !may_access(rules, row.value as u8, asker.value, held.value) {
+        return refused(next, 16);
+    }
+    Stepped {
+        outcome: Outcome::Done,
+        next,
+    }
+}

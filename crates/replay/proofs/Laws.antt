@@ -1,0 +1,215 @@
+-- Laws of replay. In order: a question's tests over the rules as they lie in memory; whether a session and a row fit; rows from one on, where it is
+-- carried out, where it is refused, and the end; what a replay answers, by how far it came.
+use mathlib.Core.Path.{_≡_, refl, sym, ap, _∙_}
+use mathlib.Core.Bool.{Bool, true, false, _&&_, cond}
+use mathlib.Core.List.{List, [], _∷_}
+use Prim.Native.Nat.{ℕ, suc, _+_, _-_, _<_}
+use native.Mathlib.Numerals.{add-one}
+use native.Mathlib.Omega.{arith}
+use borrow.Author.Tests.{eq-eqb, ne-eqb}
+use lib.Dec.{ltb, eqb}
+use lib.ListN.{length, drop, getD, length-drop}
+use lib.Seq.{drop-cons}
+use Rattle.policy.specs.Policy.{Policy}
+use Rattle.policy.specs.Rules.{attrsOf, listsOf, policyOf}
+use Rattle.policy.specs.declared.Rules.{Rules}
+use Rattle.policy.proofs.Laws.{values-length, sessions-length}
+use Rattle.rules.specs.Answers.{Answer, refusal, rules}
+use Rattle.lists.specs.Lists.{listed}
+use Rattle.runs.specs.Model.{Model}
+use Rattle.runs.specs.Grant.{Who, session, user, anyone}
+use Rattle.allowed.specs.Allowed.{modelOf}
+use Rattle.cells.specs.Row.{partsOf as rowParts, stepOf}
+use Rattle.cells.specs.Cell.{sessionAt, sessionOf}
+use Rattle.cells.specs.declared.row.Row.{Row}
+use Rattle.cells.specs.declared.SessionRead.{SessionRead}
+use Rattle.monitor.specs.Lent.{Lent, After, lentAs, leaves, refused}
+use Rattle.monitor.specs.Step.{sessionNow, stepIn}
+use Rattle.monitor.specs.Start.{started, nothingGiven}
+use Rattle.monitor.specs.declared.Next.{Next}
+use Rattle.monitor.specs.declared.Outcome.{Outcome}
+use Rattle.monitor.specs.declared.Outcome.the-variants as Outcome
+use Rattle.replay.specs.Question.{partsOf, whoOf, whichOf, whoAmong, whichAmong, partsAsk, asks}
+use Rattle.replay.specs.Rows.{Ran, ranAll, further, rowsIn}
+use Rattle.replay.specs.Replay.{isOf, whoFits, whichFits, stepFits, lastFits, judged, played, replayed}
+use Rattle.replay.specs.declared.question.Question.{Question}
+
+-- the question
+
+module _ (sessions users : ℕ) (q : Question) where
+  pub session-among : q .whokind ≡ 0 → whoAmong sessions users q ≡ ltb (q .who) sessions
+  unfolding whoAmong
+  session-among e = rw (eq-eqb (q .whokind) 0 e) refl
+
+  module _ (n : q .whokind ≡ 0 → ⊥) where
+    pub user-among : q .whokind ≡ 1 → whoAmong sessions users q ≡ ltb (q .who) users
+    unfolding whoAmong
+    user-among e = rw (ne-eqb (q .whokind) 0 n, eq-eqb (q .whokind) 1 e) refl
+
+    module _ (o : q .whokind ≡ 1 → ⊥) where
+      pub anyone-among : q .whokind ≡ 2 → whoAmong sessions users q ≡ eqb (q .who) 0
+      unfolding whoAmong
+      anyone-among e = rw (ne-eqb (q .whokind) 0 n, ne-eqb (q .whokind) 1 o, eq-eqb (q .whokind) 2 e) refl
+
+      pub nobody-among : (q .whokind ≡ 2 → ⊥) → whoAmong sessions users q ≡ false
+      unfolding whoAmong
+      nobody-among t = rw (ne-eqb (q .whokind) 0 n, ne-eqb (q .whokind) 1 o, ne-eqb (q .whokind) 2 t) refl
+
+module _ (q : Question) where
+  pub who-session : q .whokind ≡ 0 → whoOf q ≡ session (q .who)
+  unfolding whoOf
+  who-session e = rw (eq-eqb (q .whokind) 0 e) refl
+
+  pub who-user : (q .whokind ≡ 0 → ⊥) → q .whokind ≡ 1 → whoOf q ≡ user (q .who)
+  unfolding whoOf
+  who-user n e = rw (ne-eqb (q .whokind) 0 n, eq-eqb (q .whokind) 1 e) refl
+
+  pub who-anyone : (q .whokind ≡ 0 → ⊥) → (q .whokind ≡ 1 → ⊥) → whoOf q ≡ anyone
+  unfolding whoOf
+  who-anyone n o = rw (ne-eqb (q .whokind) 0 n, ne-eqb (q .whokind) 1 o) refl
+
+-- what the bytes ask, by their parts and the counts of the rules
+pub asked : (r : Rules) (bytes : List ℕ) (q : Question) → q ≡ partsOf bytes →
+    asks (policyOf r) bytes
+    ≡ (eqb (length bytes) 3
+    && (eqb (q .spares) 0 && whoAmong (r .sessions .count) (r .users .count) q && whichAmong (r .items .count) q && ltb (q .permission) (r .permissions)))
+unfolding asks partsAsk policyOf
+asked r bytes q e = rw e (simp (sessions-length (r .sessions), values-length (r .users), values-length (r .items)))
+
+-- what fits
+
+of-held : (b : Bool) (u v a : ℕ) → isOf a (sessionOf record { there = b; user = u; value = v }) ≡ cond b (eqb u a) false
+unfolding isOf sessionOf
+of-held true u v a = refl
+of-held false u v a = refl
+
+-- a session that reads as held is one of user a exactly when it is there and is a's
+pub held-fits : (r : Rules) (sessions items : List ℕ) (next : Next) (held : SessionRead) (k a : ℕ)
+    → sessionOf held ≡ sessionAt (r .users .count) (listed (attrsOf (r .classes .session))) sessions (next .session) k
+    → isOf a (sessionNow (modelOf (policyOf r)) (lentAs sessions items next) k) ≡ cond (held .there) (eqb (held .user) a) false
+unfolding sessionNow modelOf policyOf listsOf
+held-fits r sessions items next held k a e =
+    ap (λ (n : ℕ). isOf a (sessionAt n (listed (attrsOf (r .classes .session))) sessions (next .session) k)) (values-length (r .users))
+    ∙ ap (isOf a) (sym e)
+    ∙ of-held (held .there) (held .user) (held .value) a
+
+module _ (m : Model) (s : Lent) {w : Who} (k : ℕ) where
+  pub session-fits : {j : ℕ} → w ≡ session j → whoFits m s w k ≡ eqb k j
+  unfolding whoFits
+  session-fits e = rw e refl
+
+  pub user-fits : {a : ℕ} → w ≡ user a → whoFits m s w k ≡ isOf a (sessionNow m s k)
+  unfolding whoFits
+  user-fits e = rw e refl
+
+  pub anyone-fits : w ≡ anyone → whoFits m s w k ≡ true
+  unfolding whoFits
+  anyone-fits e = rw e refl
+
+-- a row fits, by its parts
+pub row-fits : (m : Model) (s : Lent) (q : Question) (row : ℕ) (r : Row) → r ≡ rowParts row →
+    stepFits m s q (stepOf (rowParts row))
+    ≡ (eqb (r .kind) 6 && eqb (r .value) (q .permission) && whoFits m s (whoOf q) (r .actor) && whichFits (whichOf q) (r .target))
+unfolding stepFits stepOf
+row-fits m s q row r e = rw e refl
+
+pub none-fits : (m : Model) (s : Lent) (q : Question) (rows : List ℕ) → length rows ≡ 0 → false ≡ lastFits m s q rows
+unfolding lastFits
+none-fits m s q [] e = refl
+none-fits m s q (row ∷ rows) e = absurd (omega arith)
+
+pub last-is : (m : Model) (s : Lent) (q : Question) (rows : List ℕ) → 0 < length rows
+    → stepFits m s q (stepOf (rowParts (getD rows (length rows - 1) 0))) ≡ lastFits m s q rows
+unfolding lastFits
+last-is m s q [] h = absurd (omega arith)
+last-is m s q (row ∷ rows) h =
+    let e : length (row ∷ rows) - 1 ≡ length rows = omega arith in
+    ap (λ (n : ℕ). stepFits m s q (stepOf (rowParts (getD (row ∷ rows) n 0)))) e
+
+-- rows from one on
+
+module _ (m : Model) (s t : Lent) (rows : List ℕ) (i : ℕ) where
+  next-row : i < length rows → rowsIn m s i (drop i rows)
+      ≡ further (stepIn m s (getD rows i 0) .outcome) (stepIn m s (getD rows i 0) .lent) i (λ k. rowsIn m (stepIn m s (getD rows i 0) .lent) k (drop (suc i) rows))
+  unfolding rowsIn
+  next-row h = rw (drop-cons rows i 0) refl
+
+  -- row i is carried out
+  pub rows-further : i < length rows → {o : Outcome} → record { outcome = o; lent = t } ≡ stepIn m s (getD rows i 0) → o ≡ Outcome.Done
+      → rowsIn m s i (drop i rows) ≡ rowsIn m t (i + 1) (drop (i + 1) rows)
+  unfolding further
+  rows-further h e d = next-row h ∙ rw (← e, d) (rw add-one)
+
+  -- row i is refused
+  pub rows-stop : i < length rows → {o : Outcome} {n : ℕ} → record { outcome = o; lent = t } ≡ stepIn m s (getD rows i 0) → o ≡ Outcome.Refused n
+      → rowsIn m s i (drop i rows) ≡ record { outcome = Outcome.Refused n; lent = t; count = i }
+  unfolding further
+  rows-stop h e d = next-row h ∙ rw (← e, d) refl
+
+past : (l : List ℕ) → length l ≡ 0 → l ≡ []
+past [] e = refl
+past (x ∷ l) e = absurd (omega arith)
+
+-- all rows were carried out
+pub rows-all : (m : Model) (s : Lent) (rows : List ℕ) (i : ℕ) → i ≡ length rows
+    → rowsIn m s i (drop i rows) ≡ record { outcome = Outcome.Done; lent = s; count = length rows }
+unfolding rowsIn ranAll
+rows-all m s rows i e =
+    let d : drop i rows ≡ [] = past (drop i rows) (omega (arith, length-drop i rows)) in
+    rw d (ap (λ (n : ℕ). record { outcome = Outcome.Done; lent = s; count = n }) e)
+
+-- what a replay answers
+
+-- an outcome and two slices are what a call leaves
+abbrev pub Left : Outcome → List ℕ → List ℕ → After → Type 0
+Left o sessions items a = (o ≡ a .outcome) × ((sessions ≡ a .lent .sessions) × (items ≡ a .lent .items))
+
+pub leaving : {o : Outcome} {s : Lent} {a : After} → record { outcome = o; lent = s } ≡ a → Left o (s .sessions) (s .items) a
+leaving e = (ap (λ (x : After). x .outcome) e, (ap (λ (x : After). x .lent .sessions) e, ap (λ (x : After). x .lent .items) e))
+
+module _ {a : Answer} (question rows sessions items : List ℕ) where
+  -- the file is refused
+  pub replay-unread : {n : ℕ} → a ≡ refusal n → leaves (Outcome.Refused n) nothingGiven sessions items ≡ replayed a question rows sessions items
+  unfolding replayed refused
+  replay-unread e = rw e refl
+
+  module _ (p : Policy) (read : a ≡ rules p) where
+    -- nothing is asked
+    pub replay-unasked : asks p question ≡ false → leaves (Outcome.Refused 10) nothingGiven sessions items ≡ replayed a question rows sessions items
+    unfolding replayed refused
+    replay-unasked e = rw (read, e) refl
+
+    module _ (asking : asks p question ≡ true) where
+      play : replayed a question rows sessions items
+          ≡ (let s = started (rules p) sessions items in played (modelOf p) (partsOf question) rows (s .outcome) (s .lent))
+      unfolding replayed
+      play = rw (read, asking) refl
+
+      -- the starting cells don't fit
+      pub replay-unstarted : {o : Outcome} {n : ℕ} {s : Lent} → record { outcome = o; lent = s } ≡ started (rules p) sessions items → o ≡ Outcome.Refused n
+          → record { outcome = Outcome.Refused n; lent = s } ≡ replayed a question rows sessions items
+      unfolding played refused
+      replay-unstarted e d = sym (play ∙ rw (← e, d) refl)
+
+      module _ {o : Outcome} {s : Lent} (begun : record { outcome = o; lent = s } ≡ started (rules p) sessions items) (d : o ≡ Outcome.Done) where
+        ran : {r : Ran} → r ≡ rowsIn (modelOf p) s 0 rows → replayed a question rows sessions items ≡ judged (modelOf p) (partsOf question) rows (r .outcome) (r .lent)
+        unfolding played
+        ran e = play ∙ rw (← begun, d, e) refl
+
+        -- a row is refused
+        pub replay-stopped : {x : Outcome} {n k : ℕ} {t : Lent} → record { outcome = x; lent = t; count = k } ≡ rowsIn (modelOf p) s 0 rows → x ≡ Outcome.Refused n
+            → record { outcome = Outcome.Refused n; lent = t } ≡ replayed a question rows sessions items
+        unfolding judged refused
+        replay-stopped e f = sym (ran e ∙ rw f refl)
+
+        module _ {x : Outcome} {k : ℕ} {t : Lent} (e : record { outcome = x; lent = t; count = k } ≡ rowsIn (modelOf p) s 0 rows) (f : x ≡ Outcome.Done) where
+          module _ {b : Bool} {q : Question} (h : b ≡ lastFits (modelOf p) t q rows) (g : q ≡ partsOf question) where
+            -- the last row fits
+            pub replay-shown : b ≡ true → record { outcome = Outcome.Done; lent = t } ≡ replayed a question rows sessions items
+            unfolding judged
+            replay-shown z = sym (ran e ∙ rw (f, ← g, ← h, z) refl)
+
+            -- it doesn't
+            pub replay-missed : b ≡ false → record { outcome = Outcome.Refused 17; lent = t } ≡ replayed a question rows sessions items
+            unfolding judged refused
+            replay-missed z = sym (ran e ∙ rw (f, ← g, ← h, z) refl)

@@ -1,0 +1,8 @@
+pub mod Laws  -- searches as the program makes them: one more value, one more row, one more place
+pub mod Turns  -- for callers: what a push and each turn of a loop do
+pub mod Pushing  -- a push of a new value keeps the queue good
+pub mod Spreading  -- a queue that brings in what is asked for
+pub mod Growing  -- a queue whose places are worked off in order: sessions
+pub mod ItemGrowing  -- the same of items, whose places are worked off by each helper value
+pub mod Paths  -- the way from a start to a place
+pub mod Theorems  -- the claims, one line each

@@ -1,0 +1,37 @@
+-- `search::one_item` meets its contract.
+use mathlib.Core.Path.{sym, ap, _∙_}
+use Prim.Native.Nat.{_+_}
+use Rattle.lanes.specs.Lanes.{laneOf}
+use Rattle.policy.specs.Rules.{policyOf}
+use Rattle.allowed.specs.Allowed.{modelOf}
+use Rattle.search.specs.Queue.{pushed}
+use Rattle.search.specs.Items.{growItems}
+use Rattle.search.specs.declared.queue.Found.{Found}
+use Rattle.search.proofs.Laws.{one-is}
+use borrow.Author.Needs.{needs}
+use Rattle.search.proofs.items.one_item.Statement.{statement}
+use Rattle.search.proofs.items.one_item.Tie as tie
+
+nothing-requires : tie.Need-nothing-requires
+nothing-requires c κs = search needs
+
+add-push : tie.Need-add-push
+add-push c = search needs
+
+push-requires : tie.Need-push-requires
+push-requires c κs = search needs
+
+grow-requires : tie.Need-grow-requires
+grow-requires c κs = search needs
+
+returns : tie.Need-returns
+returns c =
+    let a = c .before .before .before .args in
+    let m = modelOf (policyOf (a .rules)) in
+    let h = laneOf (a .helpers) in
+    c .grow .ensures
+    ∙ ap (λ (q : Found). growItems m h q 256) (c .before .push .ensures ∙ ap (λ (q : Found). pushed q (a .held) 0 (256 + a .j)) (c .before .before .nothing .ensures))
+    ∙ sym (one-is m h (a .j) (a .held))
+
+pub one-item-spec : {M : Type 1} → statement M
+one-item-spec = tie.close (tie.spec nothing-requires add-push push-requires grow-requires returns)

@@ -1,5 +1,5 @@
--- Every marked case holds: the table is computed.
-use mathlib.Core.Path.{refl}
+-- Every marked case holds: the table is computed, and P1's safe is never by the theorem.
+use mathlib.Core.Path.{_≡_, refl}
 use Rattle.bits.specs.Field.{bitAt, numberOf, numberAt, fieldAt}
 use Rattle.bits.specs.Packed.{tab}
 use Rattle.bits.specs.Set.{sizeOf, inSet, allBelow, subsetOf, properOf}
@@ -11,21 +11,30 @@ use Rattle.rules.specs.Answers.{answered, reading}
 use Rattle.formulas.specs.Value.{attrOf, partOf, heldBy, operand, sizeOfOperand}
 use Rattle.formulas.specs.Meaning.{compared, nodeSays, said, holds}
 use Rattle.lists.specs.Lists.{inLists, listed}
-use Rattle.allowed.specs.Allowed.{says, opening, userValue, modelOf}
+use Rattle.lanes.specs.Lanes.{someBelow, countBelow}
+use Rattle.runs.specs.Edge.{opensWith, changesTo, makesWith, modifiesTo, accesses}
+use Rattle.runs.specs.State.{sessionAt as sessionOf, itemAt as itemOf, begin}
+use Rattle.verdict.specs.Closure.{tableFrom, table as tableOf, inTable, round, rounds, closure}
+use Rattle.verdict.specs.Verdict.{reached, reachedFrom, helpers, allBrought, pairs, canMake, canModify, made, itemFrom, ofOne, whoCan, whichCan, leaks, values}
+use Rattle.allowed.specs.Allowed.{says, opening, changing, making, modifying, accessing, userValue, modelOf}
 use Rattle.cells.specs.Row.{partsOf, bitsOf, stepOf}
-use Rattle.cells.specs.Cell.{placeOf as cellOf, openCell, sessionIn, sessionAt}
-use Rattle.monitor.specs.Lent.{refused, done, tested as testedStep, ofSession, numbers, allGiven, left}
-use Rattle.monitor.specs.Step.{sessionNow, withSession, sessionGiven, opening as openingStep, byKind, stepIn}
-use Rattle.monitor.specs.Start.{over, sessionCells, itemCells, nothingGiven, started}
-use Rattle.p_cases.specs.Cases.{counterFile, outcomeNumber, firstStep, table, allHold, PaperCases}
+use Rattle.cells.specs.Cell.{placeOf as cellOf, openCell, closedCell, itemCell, sessionIn, sessionAt, itemIn, itemAt}
+use Rattle.monitor.specs.Lent.{refused, done, tested as testedStep, ofSession, ofItem, numbers, allGiven, left}
+use Rattle.monitor.specs.Step.{sessionNow, itemNow, withSession, withItem, sessionGiven, itemGiven, opening as openingStep, making as makingStep, modifying as modifyingStep, accessing as accessingStep, byKind, stepIn}
+use Rattle.monitor.specs.Start.{over, sessionCells, itemCells, nothingGiven, started, beginning}
+use Rattle.replay.specs.Question.{partsOf as questionOf, whoOf, whichOf, whoAmong, whichAmong, partsAsk, asks}
+use Rattle.replay.specs.Rows.{ranAll, further, rowsIn}
+use Rattle.replay.specs.Replay.{isOf, whoFits, whichFits, stepFits, lastFits, judged, played, replayed}
+use Rattle.analyser.specs.Answer.{sessionValues, itemValues, rowsNeeded, refused as refusedAnswer, decided, told}
+use Rattle.analyser.specs.declared.Verdict.the-variants as Verdict
+use Rattle.analyser.proofs.Theorems.{safe-is-never}
+use Rattle.p_cases.specs.Cases.{counterFile, outcomeNumber, firstStep, row, shownRows, shorterRows, ofUser0, ofUser1, verdictNumber, isTold, replayNumber, widest, table, allHold, PaperCases}
+
+-- P1's verdict, computed
+counter-safe : told (reading counterFile) ofUser1 9 .verdict ≡ Verdict.Safe
+unfolding counterFile ofUser1 bitAt numberOf numberAt fieldAt tab sizeOf inSet allBelow subsetOf properOf unless first tested andThen taken within field check rowsRead rows pair via zeros ended readFile fewestFrom fewestBits bitsFor codes width opOf firstOf secondOf holderOf placeOf mayUse ofHolder names atomic nodeOk count headFormat largest attrFormat classFormat listsFormat valueFormat sessionFormat formulaFormat policyFormat answered reading attrOf partOf heldBy operand sizeOfOperand compared nodeSays said holds inLists listed someBelow countBelow opensWith changesTo makesWith modifiesTo accesses sessionOf itemOf begin tableFrom tableOf inTable round rounds closure reached reachedFrom helpers allBrought pairs canMake canModify made itemFrom ofOne whoCan whichCan leaks values says opening changing making modifying accessing userValue modelOf beginning questionOf whoOf whichOf whoAmong whichAmong partsAsk asks sessionValues itemValues rowsNeeded refusedAnswer decided told
+counter-safe = refl
 
 pub paper-cases : PaperCases
-unfolding table allHold counterFile outcomeNumber firstStep
-    bitAt numberOf numberAt fieldAt tab sizeOf inSet allBelow subsetOf properOf
-    unless first tested andThen taken within field check rowsRead rows pair via zeros ended readFile
-    fewestFrom fewestBits bitsFor codes width opOf firstOf secondOf holderOf placeOf mayUse ofHolder names atomic nodeOk
-    count headFormat largest attrFormat classFormat listsFormat valueFormat sessionFormat formulaFormat policyFormat answered reading
-    attrOf partOf heldBy operand sizeOfOperand compared nodeSays said holds inLists listed says opening userValue modelOf
-    partsOf bitsOf stepOf cellOf openCell sessionIn sessionAt refused done testedStep ofSession numbers allGiven left
-    sessionNow withSession sessionGiven openingStep byKind stepIn over sessionCells itemCells nothingGiven started
-paper-cases = refl
+unfolding table allHold counterFile outcomeNumber firstStep row shownRows shorterRows ofUser0 ofUser1 verdictNumber isTold replayNumber widest bitAt numberOf numberAt fieldAt tab sizeOf inSet allBelow subsetOf properOf unless first tested andThen taken within field check rowsRead rows pair via zeros ended readFile fewestFrom fewestBits bitsFor codes width opOf firstOf secondOf holderOf placeOf mayUse ofHolder names atomic nodeOk count headFormat largest attrFormat classFormat listsFormat valueFormat sessionFormat formulaFormat policyFormat answered reading attrOf partOf heldBy operand sizeOfOperand compared nodeSays said holds inLists listed someBelow countBelow opensWith changesTo makesWith modifiesTo accesses sessionOf itemOf begin tableFrom tableOf inTable round rounds closure reached reachedFrom helpers allBrought pairs canMake canModify made itemFrom ofOne whoCan whichCan leaks values says opening changing making modifying accessing userValue modelOf partsOf bitsOf stepOf cellOf openCell closedCell itemCell sessionIn sessionAt itemIn itemAt refused done testedStep ofSession ofItem numbers allGiven left sessionNow itemNow withSession withItem sessionGiven itemGiven openingStep makingStep modifyingStep accessingStep byKind stepIn over sessionCells itemCells nothingGiven started beginning questionOf whoOf whichOf whoAmong whichAmong partsAsk asks ranAll further rowsIn isOf whoFits whichFits stepFits lastFits judged played replayed sessionValues itemValues rowsNeeded refusedAnswer decided told
+paper-cases = (refl, λ p e. safe-is-never counterFile ofUser1 9 p e counter-safe)

@@ -8,13 +8,18 @@ use Prim.Native.Nat.{ℕ}
 use lib.Dec.{eqb}
 use lib.ListN.{replicate}
 use Rattle.bits.specs.Set.{properOf}
-use Rattle.policy.specs.Policy.{bitsFor}
+use Rattle.policy.specs.Policy.{Policy, bitsFor}
 use Rattle.rules.specs.Answers.{Answer, refusal, rules, reading}
 use Rattle.allowed.specs.Allowed.{modelOf}
 use Rattle.cells.specs.Row.{bitsOf}
 use Rattle.cells.specs.declared.row.Row.{Row}
 use Rattle.monitor.specs.Start.{started}
 use Rattle.monitor.specs.Step.{stepIn}
+use Rattle.replay.specs.Replay.{replayed}
+use Rattle.analyser.specs.Answer.{Told, told, rowsNeeded}
+use Rattle.analyser.specs.Never.{Never}
+use Rattle.analyser.specs.declared.Verdict.{Verdict}
+use Rattle.analyser.specs.declared.Verdict.the-variants as Verdict
 use Rattle.monitor.specs.declared.Outcome.{Outcome}
 use Rattle.monitor.specs.declared.Outcome.the-variants as Outcome
 
@@ -34,11 +39,66 @@ firstStep (refusal n) cells row = n
 firstStep (rules p) cells row =
     outcomeNumber (stepIn (modelOf p) (started (rules p) (replicate cells 0) (replicate cells 0) .lent) (bitsOf row) .outcome)
 
+-- the row of a step
+unfoldable pub row : ℕ → ℕ → ℕ → ℕ → ℕ
+row kind actor target value = bitsOf record { kind = kind; actor = actor; target = target; value = value; spare = 0 }
+
+-- P2's rows
+unfoldable pub shownRows : List ℕ
+shownRows = row 1 0 0 1 ∷ row 4 0 0 0 ∷ row 5 0 0 1 ∷ row 6 0 0 0 ∷ []
+
+-- P3's: those without the third
+unfoldable pub shorterRows : List ℕ
+shorterRows = row 1 0 0 1 ∷ row 4 0 0 0 ∷ row 6 0 0 0 ∷ []
+
+-- can user 0, or user 1, ever have permission 0 on any item
+unfoldable pub ofUser0 : List ℕ
+ofUser0 = 64 ∷ 128 ∷ 0 ∷ []
+
+unfoldable pub ofUser1 : List ℕ
+ofUser1 = 65 ∷ 128 ∷ 0 ∷ []
+
+-- the number of a verdict: 0 safe, 100 a leak, or the number that is given instead
+unfoldable pub verdictNumber : Verdict → ℕ
+verdictNumber Verdict.Safe = 0
+verdictNumber Verdict.Leak = 100
+verdictNumber (Verdict.Refused n) = n
+
+-- verdict and counts
+unfoldable pub isTold : Told → ℕ → ℕ → ℕ → Bool
+isTold t verdict pairs values = eqb (verdictNumber (t .verdict)) verdict && (eqb (t .pairs) pairs && eqb (t .values) values)
+
+-- the number that replaying rows of the counter file gets, 0 for replayed
+unfoldable pub replayNumber : List ℕ → List ℕ → ℕ
+replayNumber question rows = outcomeNumber (replayed (reading counterFile) question rows (replicate 4 0) (replicate 4 0) .outcome)
+
+-- rules with one set of 8 for sessions and one for items
+unfoldable pub widest : Policy
+widest =
+    record {
+      head = record { userAttrs = 0; sessionAttrs = 1; itemAttrs = 1; users = 0; sessions = 0; items = 0; permissions = 0 };
+      lists = record { ofUser = []; ofSession = record { kind = 1; size = 8 } ∷ []; ofItem = record { kind = 1; size = 8 } ∷ [] };
+      users = [];
+      sessions = [];
+      items = [];
+      formulas = [];
+    }
+
 -- the marked cases
 unfoldable pub table : List (ℕ × Bool)
 table =
+    -- P1: user 1 never, counts 3 and 2
+    (1, isTold (told (reading counterFile) ofUser1 9) 0 3 2)
+    -- P2: user 0 can, and the rows replay
+    ∷ (2, isTold (told (reading counterFile) ofUser0 9) 100 3 2 && eqb (replayNumber ofUser0 shownRows) 0)
+    -- P3: without the third row 16 at the last
+    ∷ (3, eqb (replayNumber ofUser0 shorterRows) 16)
+    -- P4: the same rows for the other question: 17
+    ∷ (4, eqb (replayNumber ofUser1 shownRows) 17)
+    -- P5: widths 1 and 1 need 9 rows; 8 give 11
+    ∷ (5, isTold (told (reading counterFile) ofUser0 8) 11 0 0)
     -- P6: atomic size 1 takes 0 bits, 16 takes 4
-    (6, eqb (bitsFor record { kind = 0; size = 1 }) 0 && eqb (bitsFor record { kind = 0; size = 16 }) 4)
+    ∷ (6, eqb (bitsFor record { kind = 0; size = 1 }) 0 && eqb (bitsFor record { kind = 0; size = 16 }) 4)
     -- P7: {} is a proper subset of {0}; {0} is not of {0}; sets of size 1, {0} is the number 1
     ∷ (7, properOf 1 0 1 1 && not (properOf 1 1 1 1))
     -- P8: user 1 opening with {0}: 16; user 0 may
@@ -54,6 +114,10 @@ unfoldable pub allHold : List (ℕ × Bool) → Bool
 allHold [] = true
 allHold (r ∷ rs) = r .1 && allHold rs
 
+-- P1, of runs: whatever list of steps, of any length, is run from the counter file's start, no further step grants user 1 what is asked
+abbrev pub CounterNever : Type 0
+CounterNever = (p : Policy) → reading counterFile ≡ rules p → Never p ofUser1
+
 -- every marked case holds
 abbrev pub PaperCases : Type 0
-PaperCases = allHold table ≡ true
+PaperCases = (allHold table ≡ true) × CounterNever

@@ -1,0 +1,241 @@
+-- What a question asks. In order: who and which, where it asks something; one session's search; what is searched and aimed at, by kind; whether one
+-- that is asked about can have a value. Not here: the search of items (Aims).
+use mathlib.Core.Path.{_≡_, refl, sym, ap, _∙_, subst}
+use mathlib.Core.Bool.{Bool, true, _&&_, cond}
+use mathlib.Core.Logic.{_↔_}
+use mathlib.Core.List.{List}
+use Prim.Native.Nat.{ℕ, _≤_, _<_}
+use native.Mathlib.Decide.{ℕ-discrete}
+use native.Mathlib.Omega.{arith}
+use borrow.Author.Tests.{ltb-true, lt-ltb, eq-eqb, ne-eqb}
+use lib.Dec.{ltb, eqb}
+use lib.ListN.{length, getD}
+use Rattle.lanes.specs.Lanes.{laneOf}
+use Rattle.policy.specs.Policy.{Session, Policy}
+use Rattle.policy.specs.Rules.{valuesOf, policyOf}
+use Rattle.policy.specs.declared.Rules.{Rules}
+use Rattle.lists.specs.Sound.{Sound, startingSession}
+use Rattle.lists.proofs.Laws.{listed-byte}
+use Rattle.runs.specs.Model.{Model}
+use Rattle.runs.specs.State.{opened, State, sessionAt}
+use Rattle.runs.specs.Grant.{session, user, anyone, item, anything}
+use Rattle.runs.specs.Reach.{Reach, ReachFrom, WhoReach, AskedWho, AskedWhich}
+use Rattle.runs.specs.Outcome.{Below}
+use Rattle.verdict.proofs.Below.{not-both, both-of}
+use Rattle.verdict.proofs.Decided.{star-map, changes-to}
+use Rattle.allowed.specs.Allowed.{modelOf}
+use Rattle.monitor.specs.Start.{beginning}
+use Rattle.replay.specs.Question.{partsOf, whoOf, whichOf, whoAmong, whichAmong, partsAsk, asks}
+use Rattle.replay.specs.declared.question.Question.{Question}
+use Rattle.replay.proofs.Laws.{session-among, user-among, nobody-among, who-session, who-user, who-anyone}
+use Rattle.search.specs.Sessions.{ownFound}
+use Rattle.search.specs.Items.{oneFound, anyFound}
+use Rattle.search.specs.Claims.{Change}
+use Rattle.search.specs.declared.queue.Found.{Found}
+use Rattle.search.proofs.Theorems.{own-is-searched, searched-is-closure}
+use Rattle.analyser.specs.Answer.{sessionValues, itemValues}
+use Rattle.analyser.specs.Found.{userFound, UsersFound, anyHas}
+use Rattle.analyser.specs.Decide.{itemFound, sessionFound, whoFound, aimOf}
+use Rattle.analyser.proofs.Widths.{users-are, beginning-items, beginning-long, beginning-session, sessions-few, beginning-below, rules-session}
+use Rattle.analyser.proofs.UsersReach.{user-lane, lane-user, any-is}
+
+-- who is asked about
+pub data WhoAsked (p : Policy) (q : Question) : Type 0 where
+  one-session : q .whokind ≡ 0 → q .who < length (p .sessions) → WhoAsked p q
+  one-user : q .whokind ≡ 1 → q .who < length (p .users) → WhoAsked p q
+  any-one : q .whokind ≡ 2 → WhoAsked p q
+
+-- which item
+pub data WhichAsked (p : Policy) (q : Question) : Type 0 where
+  one-item : q .itemkind ≡ 0 → q .item < length (p .items) → WhichAsked p q
+  any-item : (q .itemkind ≡ 0 → ⊥) → WhichAsked p q
+
+-- a question that asks something
+pub record Asks (p : Policy) (q : Question) : Type 0 where
+  pub who : WhoAsked p q
+  pub which : WhichAsked p q
+  pub permission : q .permission < p .head .permissions
+
+module _ (p : Policy) (q : Question) where
+  who-among : whoAmong (length (p .sessions)) (length (p .users)) q ≡ true → WhoAsked p q
+  who-among t = first (ℕ-discrete (q .whokind) 0)
+    where
+      third : (q .whokind ≡ 0 → ⊥) → (q .whokind ≡ 1 → ⊥) → Dec (q .whokind ≡ 2) → WhoAsked p q
+      third z o (yes e) = any-one e
+      third z o (no d) = not-both (nobody-among (length (p .sessions)) (length (p .users)) q z o d) t
+
+      second : (q .whokind ≡ 0 → ⊥) → Dec (q .whokind ≡ 1) → WhoAsked p q
+      second z (yes e) = one-user e (ltb-true (q .who) (length (p .users)) (sym (user-among (length (p .sessions)) (length (p .users)) q z e) ∙ t))
+      second z (no d) = third z d (ℕ-discrete (q .whokind) 2)
+
+      first : Dec (q .whokind ≡ 0) → WhoAsked p q
+      first (yes e) = one-session e (ltb-true (q .who) (length (p .sessions)) (sym (session-among (length (p .sessions)) (length (p .users)) q e) ∙ t))
+      first (no d) = second d (ℕ-discrete (q .whokind) 1)
+
+  which-among : whichAmong (length (p .items)) q ≡ true → WhichAsked p q
+  unfolding whichAmong
+  which-among t = go (ℕ-discrete (q .itemkind) 0)
+    where
+      go : Dec (q .itemkind ≡ 0) → WhichAsked p q
+      go (yes e) =
+          one-item e (ltb-true (q .item) (length (p .items))
+          (sym (ap (λ (b : Bool). cond b (ltb (q .item) (length (p .items))) (eqb (q .item) 0)) (eq-eqb (q .itemkind) 0 e)) ∙ t))
+      go (no d) = any-item d
+
+  pub which-item : q .itemkind ≡ 0 → whichOf q ≡ item (q .item)
+  unfolding whichOf
+  which-item e = rw (eq-eqb (q .itemkind) 0 e) refl
+
+  pub which-anything : (q .itemkind ≡ 0 → ⊥) → whichOf q ≡ anything
+  unfolding whichOf
+  which-anything d = rw (ne-eqb (q .itemkind) 0 d) refl
+
+  pub is-session : q .whokind ≡ 0 → whoOf q ≡ session (q .who)
+  is-session e = who-session q e
+
+  pub is-user : q .whokind ≡ 1 → whoOf q ≡ user (q .who)
+  is-user e = who-user q (λ z. omega arith) e
+
+  pub is-anyone : q .whokind ≡ 2 → whoOf q ≡ anyone
+  is-anyone e = who-anyone q (λ z. omega arith) (λ z. omega arith)
+
+  pub asked-who : WhoAsked p q → AskedWho (modelOf p) (beginning p) (whoOf q)
+  asked-who (one-session e h) = rw (is-session e) (omega (arith, h, beginning-long p))
+  asked-who (one-user e h) = rw (is-user e) tt
+  asked-who (any-one e) = rw (is-anyone e) tt
+
+  pub asked-which : WhichAsked p q → AskedWhich (modelOf p) (beginning p) (whichOf q)
+  asked-which (one-item e h) = rw (which-item e) (rw (beginning-items p) h)
+  asked-which (any-item d) = rw (which-anything d) tt
+
+pub asks-something : (p : Policy) (question : List ℕ) → asks p question ≡ true → Asks p (partsOf question)
+unfolding asks partsAsk
+asks-something p question t =
+    let q = partsOf question in
+    let a = eqb (q .spares) 0 in
+    let b = whoAmong (length (p .sessions)) (length (p .users)) q in
+    let c = whichAmong (length (p .items)) q in
+    let d = ltb (q .permission) (p .head .permissions) in
+    let (t₀, t₁) = both-of (eqb (length question) 3) (a && b && c && d) t in
+    let (t₂, t₃) = both-of (a && b && c) d t₁ in
+    let (t₄, t₅) = both-of (a && b) c t₂ in
+    record { who = who-among p q (both-of a b t₄ .1); which = which-among p q t₅; permission = ltb-true (q .permission) (p .head .permissions) t₃ }
+
+-- one session's own values
+own-lane : (m : Model) (u held v : ℕ) → ((w : ℕ) → m .sessionValue w ≡ true → w < 256) → held < 256 → v < 256 → (laneOf (ownFound m u held .seen) v ≡ true) ↔ ReachFrom m u held v
+own-lane m u held v byte h l =
+    let c =
+    searched-is-closure (λ via v. v ≡ held) (Change m u) (ownFound m u held) (own-is-searched m u held h) (λ via v e. omega arith)
+    (λ x via v e. byte v (changes-to m u x v .0 e .0)) v l
+    in (
+      λ t. star-map (λ x s. sym (s .1)) (λ x y e. changes-to m u x y .0 (e .1)) (c .0 t),
+      λ r. c .1 (star-map (λ x e. (0, sym e)) (λ x y e. (0, changes-to m u x y .1 e)) r),
+    )
+
+own-tests : (m : Model) (start : State) (j u held v : ℕ) → ((w : ℕ) → m .sessionValue w ≡ true → w < 256) → sessionAt start j ≡ opened u held → held < 256 → v < 256
+    → (laneOf (ownFound m u held .seen) v ≡ true) ↔ ((u : ℕ) × WhoReach m start (session j) u v)
+own-tests m start j u held v byte e h l = (λ t. (u, (held, e, own-lane m u held v byte h l .0 t)), λ (a, (b, f, r)). own-lane m u held v byte h l .1 (same a b (sym e ∙ f) r))
+  where
+    same : (a b : ℕ) → opened u held ≡ opened a b → ReachFrom m a b v → ReachFrom m u held v
+    same a b g r =
+        let x : a ≡ u = cc in
+        let y : b ≡ held = cc in
+        subst (λ (z : ℕ). ReachFrom m u z v) y (subst (λ (z : ℕ). ReachFrom m z b v) x r)
+
+module _ (r : Rules) (q : Question) where
+  -- the owner and value of the starting session
+  abbrev pub ownerOf : ℕ
+  ownerOf = getD (r .sessions .users) (q .who) 0
+
+  abbrev pub heldOf : ℕ
+  heldOf = getD (r .sessions .values) (q .who) 0
+
+  pub session-found : q .whokind ≡ 0 → sessionFound r q ≡ ownFound (modelOf (policyOf r)) ownerOf heldOf
+  unfolding sessionFound
+  session-found e = rw (eq-eqb (q .whokind) 0 e) refl
+
+  module _ (users : List Found) (helper : ℕ → Bool) (own : Found) (v : ℕ) where
+    pub who-found-session : q .whokind ≡ 0 → whoFound users helper own q v ≡ laneOf (own .seen) v
+    unfolding whoFound
+    who-found-session e = rw (eq-eqb (q .whokind) 0 e) refl
+
+    pub who-found-user : q .whokind ≡ 1 → q .who < 16 → whoFound users helper own q v ≡ laneOf (userFound users (q .who) .seen) v
+    unfolding whoFound
+    who-found-user e h = rw (ne-eqb (q .whokind) 0 (λ z. omega arith), eq-eqb (q .whokind) 1 e, lt-ltb (q .who) 16 h) refl
+
+    pub who-found-any : q .whokind ≡ 2 → whoFound users helper own q v ≡ helper v
+    unfolding whoFound
+    who-found-any e = rw (ne-eqb (q .whokind) 0 (λ z. omega arith), ne-eqb (q .whokind) 1 (λ z. omega arith)) refl
+
+  pub item-found-one : (helper : ℕ → Bool) → q .itemkind ≡ 0 → itemFound r helper q ≡ oneFound (modelOf (policyOf r)) helper (q .item) (getD (r .items .values) (q .item) 0)
+  unfolding itemFound
+  item-found-one helper e = rw (eq-eqb (q .itemkind) 0 e) refl
+
+  pub item-found-any : (helper : ℕ → Bool) → (q .itemkind ≡ 0 → ⊥) → itemFound r helper q ≡ anyFound (modelOf (policyOf r)) helper (valuesOf (r .items))
+  unfolding itemFound
+  item-found-any helper d = rw (ne-eqb (q .itemkind) 0 d) refl
+
+  pub aim-owner-session : (v : ℕ) → q .whokind ≡ 0 → aimOf r q v .owner ≡ ownerOf
+  unfolding aimOf
+  aim-owner-session v e = rw (eq-eqb (q .whokind) 0 e) refl
+
+  pub aim-owner-user : (v : ℕ) → q .whokind ≡ 1 → aimOf r q v .owner ≡ q .who
+  unfolding aimOf
+  aim-owner-user v e = rw (ne-eqb (q .whokind) 0 (λ z. omega arith)) refl
+
+  pub aim-value : (v : ℕ) → v < 256 → aimOf r q v .value ≡ v
+  unfolding aimOf
+  aim-value v h = omega arith
+
+  pub aim-permission : (v : ℕ) → aimOf r q v .permission ≡ q .permission
+  unfolding aimOf
+  aim-permission v = refl
+
+  pub aim-items : (v : ℕ) → aimOf r q v .items ≡ r .items .count
+  unfolding aimOf
+  aim-items v = refl
+
+  pub aim-kind : (v : ℕ) → aimOf r q v .whokind ≡ q .whokind
+  unfolding aimOf
+  aim-kind v = refl
+
+  pub aim-session : (v : ℕ) → aimOf r q v .session ≡ q .who
+  unfolding aimOf
+  aim-session v = refl
+
+  module _ (sound : Sound (policyOf r)) where
+    pub stands-open : q .who < length (policyOf r .sessions) → sessionAt (beginning (policyOf r)) (q .who) ≡ opened ownerOf heldOf
+    stands-open h = beginning-session (policyOf r) (q .who) h ∙ ap (λ (t : Session). opened (t .user) (t .value)) (rules-session r (q .who) h)
+
+    pub held-byte : q .who < length (policyOf r .sessions) → heldOf < 256
+    held-byte h =
+        let e : startingSession (policyOf r) (q .who) .value ≡ heldOf = ap (λ (t : Session). t .value) (rules-session r (q .who) h) in
+        omega (arith, e, listed-byte (policyOf r .lists .ofSession) (startingSession (policyOf r) (q .who) .value) (sound .session-value (q .who) h))
+
+    pub below : Below (modelOf (policyOf r)) (beginning (policyOf r)) (sessionValues (policyOf r)) (itemValues (policyOf r))
+    below = beginning-below (policyOf r) sound
+
+    session-byte : (w : ℕ) → modelOf (policyOf r) .sessionValue w ≡ true → w < 256
+    session-byte w e = omega (arith, sessions-few (policyOf r) sound, below .sessions w e)
+
+    pub few-users : modelOf (policyOf r) .users ≤ 16
+    few-users = omega (arith, users-are (policyOf r), sound .users)
+
+    module _ (users : List Found) (found : UsersFound (modelOf (policyOf r)) users) where
+      abbrev pub tested : ℕ → Bool
+      tested = whoFound users (anyHas users) (sessionFound r q) q
+
+      pub who-tests : WhoAsked (policyOf r) q → (v : ℕ) → v < 256 → (tested v ≡ true) ↔ ((u : ℕ) × WhoReach (modelOf (policyOf r)) (beginning (policyOf r)) (whoOf q) u v)
+      who-tests (one-session e h) v l =
+          rw (is-session (policyOf r) q e, who-found-session users (anyHas users) (sessionFound r q) v e, session-found e)
+          (own-tests (modelOf (policyOf r)) (beginning (policyOf r)) (q .who) ownerOf heldOf v session-byte (stands-open h) (held-byte h) l)
+      who-tests (one-user e h) v l =
+          let few : q .who < 16 = omega (arith, h, sound .users) in
+          rw (is-user (policyOf r) q e, who-found-user users (anyHas users) (sessionFound r q) v e few) (
+            λ t. (q .who, (refl, user-lane (modelOf (policyOf r)) (beginning (policyOf r)) _ _ below (sessions-few (policyOf r) sound) few-users users found (q .who) v few l t .1)),
+            λ (u, (z, s)). lane-user (modelOf (policyOf r)) (beginning (policyOf r)) _ _ below (sessions-few (policyOf r) sound) few-users users found (q .who) v
+                (subst (λ (a : ℕ). Reach (modelOf (policyOf r)) a v) z s),
+          )
+      who-tests (any-one e) v l =
+          rw (is-anyone (policyOf r) q e, who-found-any users (anyHas users) (sessionFound r q) v e)
+          (any-is (modelOf (policyOf r)) (beginning (policyOf r)) _ _ below (sessions-few (policyOf r) sound) few-users users found v l)

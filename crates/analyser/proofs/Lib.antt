@@ -1,0 +1,13 @@
+pub mod Laws  -- what the analyser finds, one more at a time
+pub mod Helpers  -- a search of items asks of helpers below 256 only, and its depths are small
+pub mod Decided  -- what deciding comes to
+pub mod Widths  -- of a file's rules: widths, how values are bounded, what stands at the start
+pub mod UsersReach  -- the users' searches are what their sessions can have
+pub mod ItemsReach  -- the search of items is what one that is asked about can have
+pub mod Hits  -- there is a hit exactly where the verdict is a leak
+pub mod Asked  -- what a question asks, and what the searches say of it
+pub mod Aims  -- what a leak aims at, where there is a hit
+pub mod LeakMeans  -- the rows that are left are a leak of the run, and few
+pub mod Decides  -- what the published promise of an answer rests on
+pub mod Refusals  -- answers that give a number
+pub mod Theorems  -- the claims

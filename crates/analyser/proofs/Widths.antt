@@ -1,0 +1,141 @@
+-- Laws of a file's rules, for the theory of answers. In order: values in the lists are narrow; how many values there are and what rows they need;
+-- what stands at the start; rules in memory.
+use mathlib.Core.Path.{_≡_, refl, sym, ap, _∙_, subst}
+use mathlib.Core.Bool.{Bool, true, false, cond}
+use mathlib.Core.List.{List, [], _∷_, map}
+use Prim.Native.Nat.{ℕ, zero, suc, _+_, _*_, _/_, _%_, _^_, _≤_, _<_}
+use native.Mathlib.Nat.{div-lt-iff-lt-mul}
+use native.Mathlib.Omega.{arith}
+use borrow.Author.Tests.{ltb-true, eqb-true, le-ltb}
+use lib.Dec.{ltb, eqb}
+use lib.ListN.{length, getD, length-map}
+use lib.Pow.{pow-pos, pow-mono, pow-add}
+use Rattle.bits.proofs.Set.{both-true}
+use Rattle.bits.proofs.Packed.{getD-tab}
+use Rattle.policy.specs.Policy.{Attr, Session, Policy, fewestBits, bitsFor, codes, width}
+use Rattle.policy.specs.Rules.{attrsOf, listsOf, sessionsOf, valuesOf, policyOf}
+use Rattle.policy.specs.declared.Rules.{Rules}
+use Rattle.policy.proofs.Laws.{fewest-enough, values-length, sessions-length}
+use Rattle.lists.specs.Lists.{inLists, listed}
+use Rattle.lists.specs.Sound.{Sound, startingSession}
+use Rattle.runs.specs.State.{closed, opened, begin, sessionAt, itemAt}
+use Rattle.runs.specs.Outcome.{Below}
+use Rattle.allowed.specs.Allowed.{modelOf}
+use Rattle.monitor.specs.Start.{beginning}
+use Rattle.analyser.specs.Answer.{sessionValues, itemValues, rowsNeeded}
+use Rattle.analyser.specs.Decide.{rowsFor}
+
+-- an attribute's codes fit its bits
+codes-fit : (a : Attr) → codes a ≤ 2 ^ bitsFor a
+unfolding codes bitsFor
+codes-fit a = go (eqb (a .kind) 0)
+  where
+    go : (b : Bool) → cond b (a .size) (2 ^ a .size) ≤ 2 ^ cond b (fewestBits (a .size)) (a .size)
+    go true = fewest-enough (a .size)
+    go false = omega arith
+
+-- a value in the lists is as narrow as they are
+in-narrow : (l : List Attr) (v : ℕ) → inLists l v ≡ true → v < 2 ^ width l
+unfolding inLists width
+in-narrow [] v e = let z : v ≡ 0 = eqb-true v 0 e in omega arith
+in-narrow (a ∷ l) v e =
+    let m = 2 ^ width l in
+    let h : v / m < codes a = ltb-true (v / m) (codes a) (both-true (ltb (v / m) (codes a)) (inLists l (v % m)) e .0) in
+    subst (λ (z : ℕ). v < z) (sym (pow-add 2 (bitsFor a) (width l))) (div-lt-iff-lt-mul (pow-pos (width l)) .0 (omega (arith, h, codes-fit a)))
+
+pub listed-narrow : (l : List Attr) (v : ℕ) → listed l v ≡ true → v < 2 ^ width l
+unfolding listed
+listed-narrow l v e = in-narrow l v (both-true (ltb v 256) (inLists l v) e .1)
+
+module _ (p : Policy) where
+  pub needed-is : rowsNeeded p ≡ sessionValues p + itemValues p * (sessionValues p + 1) + 1
+  unfolding rowsNeeded
+  needed-is = refl
+
+  pub users-are : modelOf p .users ≡ length (p .users)
+  unfolding modelOf
+  users-are = refl
+
+  pub permissions-are : modelOf p .permissions ≡ p .head .permissions
+  unfolding modelOf
+  permissions-are = refl
+
+  pub beginning-items : beginning p .items ≡ p .items
+  unfolding beginning begin
+  beginning-items = refl
+
+  pub beginning-long : length (beginning p .sessions) ≡ length (p .sessions)
+  unfolding beginning begin
+  beginning-long = let pair : Session → ℕ × ℕ = λ t. (t .user, t .value) in length-map (map pair (p .sessions)) (λ (x : ℕ × ℕ). opened (x .0) (x .1)) ∙ length-map (p .sessions) pair
+
+  pub beginning-item : (j : ℕ) → itemAt (beginning p) j ≡ getD (p .items) j 0
+  unfolding beginning begin itemAt
+  beginning-item j = refl
+
+map-at : {A B : Type 0} (f : A → B) (l : List A) (d : A) (e : B) (k : ℕ) → k < length l → getD (map f l) k e ≡ f (getD l k d)
+map-at f [] d e k h = absurd (omega arith)
+map-at f (x ∷ l) d e zero h = refl
+map-at f (x ∷ l) d e (suc k) h = map-at f l d e k (omega arith)
+
+-- a starting session stands open
+pub beginning-session : (p : Policy) (k : ℕ) → k < length (p .sessions) → sessionAt (beginning p) k ≡ opened (startingSession p k .user) (startingSession p k .value)
+unfolding beginning begin sessionAt startingSession
+beginning-session p k h =
+    let pair : Session → ℕ × ℕ = λ t. (t .user, t .value) in
+    let pairs = map pair (p .sessions) in
+    let m : length pairs ≡ length (p .sessions) = length-map (p .sessions) pair in
+    map-at (λ (x : ℕ × ℕ). opened (x .0) (x .1)) pairs (0, 0) closed k (omega (arith, h, m))
+    ∙ ap (λ (x : ℕ × ℕ). opened (x .0) (x .1)) (map-at pair (p .sessions) record { user = 0; value = 0 } (0, 0) k h)
+
+module _ (p : Policy) (sound : Sound p) where
+  pub sessions-few : sessionValues p ≤ 256
+  unfolding sessionValues
+  sessions-few = let m : 2 ^ width (p .lists .ofSession) ≤ 2 ^ 8 = pow-mono (sound .session-width) in omega arith
+
+  pub items-few : itemValues p ≤ 256
+  unfolding itemValues
+  items-few = let m : 2 ^ width (p .lists .ofItem) ≤ 2 ^ 8 = pow-mono (sound .item-width) in omega arith
+
+  -- values of a file are below the numbers that rows are reckoned by
+  pub beginning-below : Below (modelOf p) (beginning p) (sessionValues p) (itemValues p)
+  unfolding modelOf beginning begin sessionValues itemValues itemAt
+  beginning-below = record {
+    sessions = λ v e. listed-narrow (p .lists .ofSession) v e;
+    items = λ o e. listed-narrow (p .lists .ofItem) o e;
+    starting = λ j h. listed-narrow (p .lists .ofItem) (getD (p .items) j 0) (sound .item-value j h);
+  }
+
+module _ (r : Rules) where
+  pub rules-sessions : policyOf r .sessions ≡ sessionsOf (r .sessions)
+  unfolding policyOf
+  rules-sessions = refl
+
+  pub rules-items : policyOf r .items ≡ valuesOf (r .items)
+  unfolding policyOf
+  rules-items = refl
+
+  pub rules-items-long : length (policyOf r .items) ≡ r .items .count
+  unfolding policyOf
+  rules-items-long = values-length (r .items)
+
+  pub rules-session : (k : ℕ) → k < length (policyOf r .sessions)
+      → startingSession (policyOf r) k ≡ record { user = getD (r .sessions .users) k 0; value = getD (r .sessions .values) k 0 }
+  unfolding policyOf startingSession sessionsOf
+  rules-session k h =
+      getD-tab (λ k. record { user = getD (r .sessions .users) k 0; value = getD (r .sessions .values) k 0 }) 0 (r .sessions .count) k record { user = 0; value = 0 }
+      (omega (arith, h, sessions-length (r .sessions)))
+      ∙ ap (λ (k : ℕ). record { user = getD (r .sessions .users) k 0; value = getD (r .sessions .values) k 0 }) (let z : 0 + k ≡ k = omega arith in z)
+
+  pub rules-item : (k : ℕ) → k < length (policyOf r .items) → getD (policyOf r .items) k 0 ≡ getD (r .items .values) k 0
+  unfolding policyOf valuesOf
+  rules-item k h =
+      getD-tab (λ k. getD (r .items .values) k 0) 0 (r .items .count) k 0 (omega (arith, h, values-length (r .items)))
+      ∙ ap (λ (k : ℕ). getD (r .items .values) k 0) (let z : 0 + k ≡ k = omega arith in z)
+
+  pub rowsFor-is : Sound (policyOf r) → rowsFor (width (attrsOf (r .classes .session))) (width (attrsOf (r .classes .item))) ≡ rowsNeeded (policyOf r)
+  unfolding rowsFor rowsNeeded sessionValues itemValues policyOf listsOf
+  rowsFor-is sound =
+      let s = width (attrsOf (r .classes .session)) in
+      let o = width (attrsOf (r .classes .item)) in
+      let n = 2 ^ s + 2 ^ o * (2 ^ s + 1) + 1 in
+      ap (λ (b : Bool). cond b 0 (cond (ltb 8 o) 0 n)) (le-ltb 8 s (sound .session-width)) ∙ ap (λ (b : Bool). cond b 0 n) (le-ltb 8 o (sound .item-width))

@@ -28,6 +28,10 @@ Never p question =
     let q = partsOf question in
     (steps : List Step) (last : Step) → Fits (modelOf p) (run (modelOf p) (beginning p) steps) (whoOf q) (whichOf q) (q .permission) last → ⊥
 
+-- the leak: so many of the rows as the answer says, from the front
+abbrev pub leakOf : Answer → List ℕ → List ℕ
+leakOf a rows = take (a .rows) rows
+
 -- the answer a to the question, with the rows before and after
 pub record Means (file question before after : List ℕ) (a : Answer) : Type 0 where
   -- no row is written unless it is of a leak, and then so many at the front
@@ -39,8 +43,8 @@ pub record Means (file question before after : List ℕ) (a : Answer) : Type 0 w
   pub safe : a .verdict ≡ Verdict.Safe → (p : Policy) → reading file ≡ rules p → Never p question
   -- a leak replays, in any cells that are enough, whatever they held
   pub leak : a .verdict ≡ Verdict.Leak → (p : Policy) → reading file ≡ rules p → (sessions items : List ℕ)
-      → Enough p (take (a .rows) after) (length sessions) (length items)
-      → replayed (reading file) question (take (a .rows) after) sessions items .outcome ≡ Outcome.Done
+      → Enough p (leakOf a after) (length sessions) (length items)
+      → replayed (reading file) question (leakOf a after) sessions items .outcome ≡ Outcome.Done
   -- the counts are of what stands after some run
   pub pairs : ((n : ℕ) → a .verdict ≡ Verdict.Refused n → ⊥) → (p : Policy) → reading file ≡ rules p
       → Counts (λ (x : ℕ × ℕ). SessionStands (modelOf p) (beginning p) (x .0) (x .1)) (a .pairs)

@@ -5,6 +5,8 @@ ghost use lib.Dec.{ltb};
 ghost use Rattle.format.specs.Format.{Format, taken, field, within as withinOf};
 ghost use Rattle.format.specs.Steps.{from, resOf, judged as judgedOf, Near, Stores};
 
+pub mod bit_reader;
+
 // The place reached, in bits; or a refusal: its number, and the bits taken until it was judged. Number 0: none was given.
 pub struct Cursor {
     pub number: u8,

@@ -128,6 +128,36 @@ pub fn step_at(
     }
 }
 
+// The same, with the next numbers lent: a step that is carried out brings them up to date, any other leaves them as they were.
+pub fn step(
+    rules: Rules,
+    sessions: &mut [u64],
+    items: &mut [u64],
+    next: &mut Next,
+    row: u64,
+) -> Outcome
+    ensures { λ r. ⌜ leaves r (now (next .exit)) (now (sessions .exit)) (now (items .exit)) ≡ stepIn (modelOf (policyOf rules)) (lentAs (now (sessions .entry)) (now (items .entry)) (now (next .entry))) row ⌝ }
+{
+    let t = step_at(rules, sessions, items, *next, row);
+    *next = t.next;
+    t.outcome
+}
+
+// The same as `step_at`, by `step`: the next numbers are lent from a local.
+pub fn step_with(
+    rules: Rules,
+    sessions: &mut [u64],
+    items: &mut [u64],
+    next: Next,
+    row: u64,
+) -> Stepped
+    ensures { λ r. ⌜ leaves (r .outcome) (r .next) (now (sessions .exit)) (now (items .exit)) ≡ stepIn (modelOf (policyOf rules)) (lentAs (now (sessions .entry)) (now (items .entry)) next) row ⌝ }
+{
+    let mut n = next;
+    let outcome = step(rules, sessions, items, &mut n, row);
+    Stepped { outcome, next: n }
+}
+
 // A number is given, and the next numbers stay.
 fn refused(next: Next, number: u8) -> Stepped
     ensures { λ r. ⌜ r ≡ record { outcome = Outcome.Refused number; next = next } ⌝ }

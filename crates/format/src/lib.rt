@@ -7,6 +7,9 @@ ghost use Rattle.format.specs.Steps.{from, resOf, judged as judgedOf, Ne
 
 pub mod bit_reader;
 
+use bit_reader::read_at;
+use bits::Field;
+
 // The place reached, in bits; or a refusal: its number, and the bits taken until it was judged. Number 0: none was given.
 pub struct Cursor {
     pub number: u8,
@@ -28,17 +31,15 @@ pub fn take(s: &[u8], at: Cursor, w: usize) -> Taken
     if at.number != 0 {
         return Taken { at, value: 0 };
     }
-    let pos = at.pos;
-    let f = bits::field_at(s, pos, w);
+    let found = read_at(s, at.pos, w);
+    let pos = found.at;
+    let f = found.field;
     match f {
-        bits::Field::Value(x) => Taken {
-            at: Cursor {
-                number: 0,
-                pos: pos + w,
-            },
+        Field::Value(x) => Taken {
+            at: Cursor { number: 0, pos },
             value: x,
         },
-        bits::Field::Absent => Taken {
+        Field::Absent => Taken {
             at: Cursor {
                 number: 1,
                 pos: s.len() * 8,

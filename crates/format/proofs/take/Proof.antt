@@ -1,4 +1,4 @@
--- `format::take` meets its contract: a cursor with a number stays; else the field that stands at the place, or its absence, is what the next w bits are.
+-- `format::take` meets its contract: a cursor with a number stays; else what a reader finds at the place, a field or none, is what the next w bits are.
 use mathlib.Core.Path.{_≡_, refl, sym, ap, _∙_}
 use mathlib.Core.List.{List}
 use Prim.Native.Nat.{ℕ, _+_, _*_, _≤_, _<_}
@@ -8,13 +8,26 @@ use borrow.Author.Needs.{needs}
 use lib.ListN.{length}
 use lib.Pow.{pow-pos}
 use Rattle.bits.specs.Field.{numberAt, fieldAt}
+use Rattle.bits.specs.declared.Field.{Field}
 use Rattle.bits.specs.declared.Field.the-variants.{Value, Absent}
 use Rattle.bits.proofs.Laws.{number-lt, field-value, field-short}
 use Rattle.format.specs.Format.{ok, bad, taken}
+use Rattle.format.specs.Reader.{foundAt}
+use Rattle.format.specs.Steps.{resOf}
+use Rattle.format.specs.declared.bit_reader.Found.{Found}
+use Rattle.format.proofs.Reader.{found-field, found-on}
 use Rattle.format.proofs.Fault.{taken-value, taken-short}
 use Rattle.format.proofs.Chain.{from-good, res-good, res-bad, chain-skip}
 use Rattle.format.proofs.take.Statement.{statement}
 use Rattle.format.proofs.take.Tie as tie
+
+-- what a reader found, as the field at its place, and the place after it
+module _ (s : List ℕ) (pos w : ℕ) (r : Found) (e : r ≡ foundAt s pos w) where
+  is-field : {f : Field} → r .field ≡ f → fieldAt s pos w ≡ f
+  is-field g = sym (found-field s pos w) ∙ sym (ap (λ (y : Found). y .field) e) ∙ g
+
+  is-on : (x : ℕ) → fieldAt s pos w ≡ Value x → r .at ≡ pos + w
+  is-on x g = ap (λ (y : Found). y .at) e ∙ found-on s pos w x g
 
 module _ (s : List ℕ) (pos w : ℕ) (n : w ≤ 24) where
   there : (x : ℕ) → fieldAt s pos w ≡ Value x → (x ≡ numberAt s pos w) × (taken s pos w ≡ ok x (pos + w))
@@ -36,14 +49,11 @@ returns c =
     let a = c .before .before .before .args in
     (chain-skip (λ q. taken (a .s .now) q (a .w)) (a .at) 0 (omega arith), record { place = omega arith; fits = pow-pos (a .w); below = omega arith })
 
-field-at-requires : tie.Need-field-at-requires
-field-at-requires c κs = search needs
+read-at-requires : tie.Need-read-at-requires
+read-at-requires c κs = search needs
 
 enum-known-f : tie.Need-enum-known-f
 enum-known-f c = search needs
-
-add-t9 : tie.Need-add-t9
-add-t9 c = search needs
 
 enum-told : tie.Need-enum-told
 enum-told c = search needs
@@ -52,17 +62,19 @@ mul-t12 : tie.Need-mul-t12
 mul-t12 c =
     let k = c .before .before in
     let a = k .before .before .before .before .args in
-    omega (arith, absent (a .s .now) (a .at .pos) (a .w) (omega arith) (sym (k .field-at .ensures) ∙ c .enum-told .given .1) .0)
+    omega (arith, absent (a .s .now) (a .at .pos) (a .w) (omega arith) (is-field _ _ _ _ (k .read-at .ensures) (c .enum-told .given .1)) .0)
 
 returns-2 : tie.Need-returns-2
 returns-2 c =
     let k = c .before .before .before in
     let a = k .before .before .before .before .args in
     let x = c .before .f .given .0 .0 in
-    let e = there (a .s .now) (a .at .pos) (a .w) (omega arith) x (sym (k .field-at .ensures) ∙ c .before .f .given .1) in (
-      res-good _ x refl ∙ sym (from-good (a .at) _ (k .before .if1 .left) ∙ e .1),
+    let f = is-field _ _ _ _ (k .read-at .ensures) (c .before .f .given .1) in
+    let e = there (a .s .now) (a .at .pos) (a .w) (omega arith) x f in
+    let p = is-on _ _ _ _ (k .read-at .ensures) x f in (
+      ap (λ (q : ℕ). resOf record { number = 0; pos = q } x) p ∙ res-good _ x refl ∙ sym (from-good (a .at) _ (k .before .if1 .left) ∙ e .1),
       record {
-        place = omega arith;
+        place = omega (arith, p);
         fits = omega (arith, e .0, number-lt (a .s .now) (a .at .pos) (a .w));
         below = omega (arith, e .0, number-lt (a .s .now) (a .at .pos) (a .w));
       },
@@ -72,10 +84,10 @@ returns-3 : tie.Need-returns-3
 returns-3 c =
     let k = c .before .before in
     let a = k .before .before .before .before .args in
-    let e = absent (a .s .now) (a .at .pos) (a .w) (omega arith) (sym (k .field-at .ensures) ∙ c .enum-told .given .1) in (
+    let e = absent (a .s .now) (a .at .pos) (a .w) (omega arith) (is-field _ _ _ _ (k .read-at .ensures) (c .enum-told .given .1)) in (
       res-bad _ 0 (omega arith) ∙ ap (bad 1) (omega arith) ∙ sym (from-good (a .at) _ (k .before .if1 .left) ∙ e .1),
       record { place = omega (arith, e .0); fits = pow-pos (a .w); below = omega arith },
     )
 
 pub take-spec : {M : Type 1} → statement M
-take-spec = tie.close (tie.spec returns field-at-requires enum-known-f add-t9 enum-told mul-t12 returns-2 returns-3)
+take-spec = tie.close (tie.spec returns read-at-requires enum-known-f enum-told mul-t12 returns-2 returns-3)

@@ -63,7 +63,7 @@ impl<'a> BitReader<'a> {
 // The field of w bits that begins at bit at, by a reader.
 pub fn read_at(s: &[u8], at: usize, w: usize) -> Found
     requires { ⌜ (w ≤ 24) × (at < 2 ^ 40) ⌝ }
-    ensures { λ r. ⌜ r ≡ foundAt (now (s .entry)) at w ⌝ }
+    ensures { λ t. ⌜ t ≡ foundAt (now (s .entry)) at w ⌝ }
 {
     let mut r = BitReader::new(s, at);
     let field = r.take(w);

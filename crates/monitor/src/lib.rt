@@ -128,7 +128,8 @@ pub fn step_at(
     }
 }
 
-// The same, with the next numbers lent: a step that is carried out brings them up to date, any other leaves them as they were.
+// Carries out the step of a row on lent cells and lent next numbers, which a step that gives a number brings up to date; any other leaves them
+// as they were. A caller that cannot hold the reference uses `step_at`.
 pub fn step(
     rules: Rules,
     sessions: &mut [u64],
@@ -143,7 +144,7 @@ pub fn step(
     t.outcome
 }
 
-// The same as `step_at`, by `step`: the next numbers are lent from a local.
+// As `step_at`, by `step`: the next numbers are kept in a local, which is lent.
 pub fn step_with(
     rules: Rules,
     sessions: &mut [u64],
@@ -151,7 +152,7 @@ pub fn step_with(
     next: Next,
     row: u64,
 ) -> Stepped
-    ensures { λ r. ⌜ leaves (r .outcome) (r .next) (now (sessions .exit)) (now (items .exit)) ≡ stepIn (modelOf (policyOf rules)) (lentAs (now (sessions .entry)) (now (items .entry)) next) row ⌝ }
+    ensures { λ t. ⌜ leaves (t .outcome) (t .next) (now (sessions .exit)) (now (items .exit)) ≡ stepIn (modelOf (policyOf rules)) (lentAs (now (sessions .entry)) (now (items .entry)) next) row ⌝ }
 {
     let mut n = next;
     let outcome = step(rules, sessions, items, &mut n, row);

@@ -4,13 +4,6 @@ use libc::STDOUT_FILENO;
 use monitor::Next;
 use monitor::Outcome;
 
-// Paper 01's counter file.
-const FILE: [u8; 33] = [
-    0x11, 0x11, 0x00, 0x00, 0x80, 0x84, 0x08, 0x40, 0x08, 0x08, 0x06, 0x50, 0x00, 0x00, 0x65, 0x00,
-    0x00, 0x05, 0x60, 0x28, 0x00, 0x62, 0x80, 0x80, 0x0E, 0x28, 0x08, 0x15, 0x82, 0x84, 0xC0, 0x00,
-    0x40,
-];
-
 // Rows, each as kind, actor, target, value and spare, and the answer that paper 01 gives, worked out by hand.
 const ROWS: [u64; 12] = [
     0x1_00001_00000_001_00, // 16: user 1 holds no member
@@ -58,11 +51,13 @@ fn print_cells(cells: [u64; 2]) {
 }
 
 fn main() {
-    let file = FILE;
+    // paper 01's counter file
+    let file =
+        b"\x11\x11\x00\x00\x80\x84\x08\x40\x08\x08\x06\x50\x00\x00\x65\x00\x00\x05\x60\x28\x00\x62\x80\x80\x0E\x28\x08\x15\x82\x84\xC0\x00\x40";
     let rows = ROWS;
     let mut sessions: [u64; 2] = [BEFORE; 2];
     let mut items: [u64; 2] = [BEFORE; 2];
-    let begun = monitor::start(&file, &mut sessions, &mut items);
+    let begun = monitor::start(file, &mut sessions, &mut items);
     let rules = begun.rules;
     let mut next = begun.next;
     let outcome = begun.outcome;

@@ -18,9 +18,6 @@ slice-aggregate-start c = search needs
 slice-aggregate-start-2 : tie.Need-slice-aggregate-start-2 Inv-loop μ-loop
 slice-aggregate-start-2 c = search needs
 
-slice-aggregate-start-3 : tie.Need-slice-aggregate-start-3 Inv-loop μ-loop
-slice-aggregate-start-3 c = search needs
-
 start-requires : tie.Need-start-requires Inv-loop μ-loop
 start-requires c κs = search needs
 
@@ -86,7 +83,6 @@ main-spec =
     μ-loop
     slice-aggregate-start
     slice-aggregate-start-2
-    slice-aggregate-start-3
     start-requires
     print-step-requires
     loop-holds

@@ -1,4 +1,5 @@
--- A reader over the file's bytes keeps its bit position [01:The rule file 2]: what it finds there, and where it stands then.
+-- A reader over the file's bytes keeps its bit position [01:The rule file 2]: what it finds there, and where it stands then. A reader of the
+-- published calls can pass over this file: their promises do not cite it.
 -- Assumes nothing.
 use mathlib.Core.List.{List}
 use Prim.Native.Nat.{ℕ, _+_}

@@ -1,5 +1,5 @@
-// A reader over the file's bytes, which keeps its bit position. Its functions are thin: the work is done by `found_at`, on the slice and a
-// number, and whoever has a slice and a number calls `read_at`.
+// A reader over the file's bytes, which keeps its bit position. Its functions are thin, over `found_at` on a slice and a number; whoever has a
+// slice and a number calls `read_at`. A field is at most 24 bits wide, and begins below bit 2^40.
 ghost use mathlib.Core.Path.{_≡_};
 ghost use Prim.Native.Nat.{_^_, _≤_, _<_};
 ghost use Rattle.format.specs.Reader.{foundAt, past};
@@ -13,7 +13,7 @@ pub struct Found {
 }
 
 // The field of w bits that begins at bit at.
-pub fn found_at(s: &[u8], at: usize, w: usize) -> Found
+fn found_at(s: &[u8], at: usize, w: usize) -> Found
     requires { ⌜ (w ≤ 24) × (at < 2 ^ 40) ⌝ }
     ensures { λ r. ⌜ r ≡ foundAt (now (s .entry)) at w ⌝ }
 {

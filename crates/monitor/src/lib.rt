@@ -128,8 +128,8 @@ pub fn step_at(
     }
 }
 
-// Carries out the step of a row on lent cells and lent next numbers, which a step that gives a number brings up to date; any other leaves them
-// as they were. A caller that cannot hold the reference uses `step_at`.
+// As `step_at`, with the next numbers lent: they are brought up to date where the step is carried out, and stay as they were where it is
+// refused. A caller that cannot hold the reference uses `step_at`.
 pub fn step(
     rules: Rules,
     sessions: &mut [u64],

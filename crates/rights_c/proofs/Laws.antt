@@ -1,5 +1,5 @@
 -- In order: numbers and lengths of what was written, by what writing answered; numbers and live states after starting, after a step and after many
--- rows; the number of a replay; what is told of a verdict.
+-- rows; what is told of a verdict.
 use mathlib.Core.Path.{_≡_, refl, sym, ap, _∙_, subst}
 use mathlib.Core.Bool.{Bool, true, false, cond}
 use mathlib.Core.List.{List, [], _∷_}
@@ -98,19 +98,10 @@ unfolding hostStepped outcomeNumber refusedIn
 step-unread a n e s row = rw e (refl, refl)
 
 module _ (a : Answer) (p : Policy) (e : a ≡ rules p) (s : Lent) (row : ℕ) (x : After) (d : x ≡ stepIn (modelOf p) s row) where
-  -- the step gave a number
-  pub step-number : (n : ℕ) → x .outcome ≡ Outcome.Refused n → (n ≡ outcomeNumber (hostStepped a s row .outcome)) × (x .lent ≡ hostStepped a s row .lent)
-  unfolding hostStepped outcomeNumber
-  step-number n f =
-      let o = sym (ap (λ (y : After). y .outcome) d) ∙ f in
-      rw (e, o) (refl, ap (λ (y : After). y .lent) d)
-
-  -- the step was carried out
-  pub step-done : x .outcome ≡ Outcome.Done → (_≡_ {A = ℕ} 0 (outcomeNumber (hostStepped a s row .outcome))) × (x .lent ≡ hostStepped a s row .lent)
-  unfolding hostStepped outcomeNumber
-  step-done f =
-      let o = sym (ap (λ (y : After). y .outcome) d) ∙ f in
-      rw (e, o) (refl, ap (λ (y : After). y .lent) d)
+  -- the step was tried, and this is its number
+  pub step-told : (n : ℕ) → n ≡ outcomeNumber (x .outcome) → (n ≡ outcomeNumber (hostStepped a s row .outcome)) × (x .lent ≡ hostStepped a s row .lent)
+  unfolding hostStepped
+  step-told n f = rw e (f ∙ ap (λ (y : After). outcomeNumber (y .outcome)) d, ap (λ (y : After). y .lent) d)
 
 -- many rows
 
@@ -141,30 +132,10 @@ module _ (a : Answer) (p : Policy) (e : a ≡ rules p) (s : Lent) (rows : List �
   unfolding hostSteps
   ran-same = rw e (d ∙ sym (rows-same p s 0 rows))
 
-  -- with the number of the outcome, it is what the rows come to
-  ran-as : (n : ℕ) → n ≡ outcomeNumber (x .outcome) → RanAs n (x .lent) (x .count) (hostSteps a s rows)
-  ran-as n f =
+  -- the rows were tried, and this is their number
+  pub steps-told : (n : ℕ) → n ≡ outcomeNumber (x .outcome) → RanAs n (x .lent) (x .count) (hostSteps a s rows)
+  steps-told n f =
       (f ∙ ap (λ (y : Ran). outcomeNumber (y .outcome)) ran-same, (ap (λ (y : Ran). y .lent) ran-same, ap (λ (y : Ran). y .count) ran-same))
-
-  -- a row gave a number
-  pub steps-number : (n : ℕ) → x .outcome ≡ Outcome.Refused n → RanAs n (x .lent) (x .count) (hostSteps a s rows)
-  unfolding outcomeNumber
-  steps-number n f = ran-as n (sym (ap outcomeNumber f))
-
-  -- all rows were carried out
-  pub steps-done : x .outcome ≡ Outcome.Done → RanAs 0 (x .lent) (x .count) (hostSteps a s rows)
-  unfolding outcomeNumber
-  steps-done f = ran-as 0 (sym (ap outcomeNumber f))
-
--- the number of an outcome
-
-pub number-of-refused : (o x : Outcome) → o ≡ x → (n : ℕ) → o ≡ Outcome.Refused n → n ≡ outcomeNumber x
-unfolding outcomeNumber
-number-of-refused o x e n f = sym (ap outcomeNumber (sym e ∙ f))
-
-pub number-of-done : (o x : Outcome) → o ≡ x → o ≡ Outcome.Done → _≡_ {A = ℕ} 0 (outcomeNumber x)
-unfolding outcomeNumber
-number-of-done o x e f = sym (ap outcomeNumber (sym e ∙ f))
 
 -- what is told of a verdict
 

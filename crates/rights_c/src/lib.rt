@@ -55,6 +55,16 @@ pub extern "C" fn rights_write_back(file: &[u8], out: &mut [u8], size: &mut usiz
     }
 }
 
+// 0 for carried out, or the number.
+fn number_of(outcome: Outcome) -> u32
+    ensures { λ r. ⌜ r ≡ outcomeNumber outcome ⌝ }
+{
+    match outcome {
+        Outcome::Done => 0,
+        Outcome::Refused(n) => n as u32,
+    }
+}
+
 // Starts a live state: 0 and the starting cells and next numbers written, or the first number 1 to 8, or 15; then nothing changes.
 #[no_mangle]
 pub extern "C" fn rights_start(
@@ -107,10 +117,7 @@ pub extern "C" fn rights_step(
             *session = after.session;
             *item = after.item;
             let outcome = s.outcome;
-            match outcome {
-                Outcome::Done => 0,
-                Outcome::Refused(n) => n as u32,
-            }
+            number_of(outcome)
         }
     }
 }
@@ -143,15 +150,12 @@ pub extern "C" fn rights_steps(
                 item: *item,
             };
             let ran = steps_at(p.rules, sessions, items, next, rows);
-            let after = ran.next;
-            *session = after.session;
-            *item = after.item;
+            let stands = ran.next;
+            *session = stands.session;
+            *item = stands.item;
             *done = ran.count as u64;
-            let outcome = ran.outcome;
-            match outcome {
-                Outcome::Done => 0,
-                Outcome::Refused(n) => n as u32,
-            }
+            let came = ran.outcome;
+            number_of(came)
         }
     }
 }
@@ -170,11 +174,8 @@ pub extern "C" fn rights_replay(
     ensures { λ r. ⌜ now (sessions .exit) ≡ replayed (reading (now (file .entry))) (now (question .entry)) (now (rows .entry)) (now (sessions .entry)) (now (items .entry)) .lent .sessions ⌝ }
     ensures { λ r. ⌜ now (items .exit) ≡ replayed (reading (now (file .entry))) (now (question .entry)) (now (rows .entry)) (now (sessions .entry)) (now (items .entry)) .lent .items ⌝ }
 {
-    let outcome = replay::replay(file, question, rows, sessions, items);
-    match outcome {
-        Outcome::Done => 0,
-        Outcome::Refused(n) => n as u32,
-    }
+    let played = replay::replay(file, question, rows, sessions, items);
+    number_of(played)
 }
 
 // Answers a question of a file: 0 with the verdict (0 safe, 1 leak), how many pairs of user and session value can be open, how many values the

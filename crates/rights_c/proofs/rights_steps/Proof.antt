@@ -5,7 +5,7 @@ use Rattle.policy.specs.Rules.{policyOf}
 use Rattle.rules.specs.Answers.{reading, rules}
 use Rattle.rules.proofs.Laws.{was-accepted, was-refused}
 use Rattle.replay.specs.Rows.{Ran}
-use Rattle.rights_c.proofs.Laws.{steps-unread, steps-number, steps-done}
+use Rattle.rights_c.proofs.Laws.{steps-unread, steps-told}
 use borrow.Author.Needs.{needs}
 use Rattle.rights_c.proofs.rights_steps.Statement.{statement}
 use Rattle.rights_c.proofs.rights_steps.Tie as tie
@@ -25,14 +25,8 @@ enum-told c = search needs
 steps-at-requires : tie.Need-steps-at-requires
 steps-at-requires c κs = search needs
 
-enum-told-2 : tie.Need-enum-told-2
-enum-told-2 c = search needs
-
-enum-known-outcome : tie.Need-enum-known-outcome
-enum-known-outcome c = search needs
-
-cast-result-2 : tie.Need-cast-result-2
-cast-result-2 c = search needs
+number-of-requires : tie.Need-number-of-requires
+number-of-requires c κs = search needs
 
 returns : tie.Need-returns
 returns c =
@@ -54,27 +48,12 @@ same-length-2 c = search needs
 
 returns-2 : tie.Need-returns-2
 returns-2 c =
-    let k = c .before .before .before .before .before .before .before in
+    let k = c .before .before .before .before .before .before in
     let q = k .before .before .before .before .before .before .before .read-rules in
     let a = k .before .before .before .before .before .before .before .before .before .before .before .before .args in
     let s = lentAs (a .sessions .now) (a .items .now) record { session = a .session .now; item = a .item .now } in
     let x : Ran = record { outcome = k .steps-at .result .outcome; lent = lentAs (k .steps-at .last .1 .0) (k .steps-at .last .1 .1 .0) (k .steps-at .result .next); count = k .steps-at .result .count } in
-    steps-done (reading (a .file .now)) (policyOf (q .result .rules)) (accepted k) s (a .rows .now) x (k .steps-at .ensures) (c .enum-told2 .given .1)
-
-same-length-3 : tie.Need-same-length-3
-same-length-3 c = search needs
-
-same-length-4 : tie.Need-same-length-4
-same-length-4 c = search needs
-
-returns-3 : tie.Need-returns-3
-returns-3 c =
-    let k = c .before .before .before .before .before .before .before .before in
-    let q = k .before .before .before .before .before .before .before .read-rules in
-    let a = k .before .before .before .before .before .before .before .before .before .before .before .before .args in
-    let s = lentAs (a .sessions .now) (a .items .now) record { session = a .session .now; item = a .item .now } in
-    let x : Ran = record { outcome = k .steps-at .result .outcome; lent = lentAs (k .steps-at .last .1 .0) (k .steps-at .last .1 .1 .0) (k .steps-at .result .next); count = k .steps-at .result .count } in
-    steps-number (reading (a .file .now)) (policyOf (q .result .rules)) (accepted k) s (a .rows .now) x (k .steps-at .ensures) _ (c .before .outcome .given .1)
+    steps-told (reading (a .file .now)) (policyOf (q .result .rules)) (accepted k) s (a .rows .now) x (k .steps-at .ensures) _ (c .number-of .ensures)
 
 pub rights-steps-spec : {M : Type 1} → statement M
 rights-steps-spec =
@@ -85,13 +64,8 @@ rights-steps-spec =
     cast-result
     enum-told
     steps-at-requires
-    enum-told-2
-    enum-known-outcome
-    cast-result-2
+    number-of-requires
     returns
     same-length
     same-length-2
-    returns-2
-    same-length-3
-    same-length-4
-    returns-3)
+    returns-2)

@@ -37,7 +37,8 @@ static void kept(int part, size_t from) {
     for (int i = (int)from; i < MOST; i++) is("a place that no call may write", filling(part, i), lent[part][i]);
 }
 
-static void analyse(const uint8_t *file, size_t len, const uint8_t *question, size_t qlen, size_t room, uint32_t number, uint64_t v, uint64_t p, uint64_t o) {
+static void analyse(const uint8_t *file, size_t len, const uint8_t *question, size_t qlen, size_t room, uint32_t number, uint64_t v, uint64_t p,
+                    uint64_t o) {
     calls++;
     fill();
     is("number", number, rights_analyse(file, len, question, qlen, lent[ROWS], room, &verdict, &pairs, &values, &count));

@@ -3,8 +3,7 @@
 #include <stdio.h>
 #include <string.h>
 
-uint32_t rights_read(const uint8_t *file, size_t len);
-uint32_t rights_write_back(const uint8_t *file, size_t len, uint8_t *out, size_t room, size_t *length);
+#include "rights.h"
 
 int main(int argc, char **argv) {
     static uint8_t file[1 << 16], out[1 << 16];

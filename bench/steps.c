@@ -4,9 +4,7 @@
 #include <stdint.h>
 #include <stdio.h>
 
-uint32_t rights_read(const uint8_t *file, size_t len);
-uint32_t rights_step(const uint8_t *file, size_t len, uint64_t *sessions, size_t ns, uint64_t *items, size_t ni, uint64_t *session, uint64_t *item,
-                     uint64_t row);
+#include "rights.h"
 
 int main(void) {
     static char hex[8192];

@@ -1,25 +1,29 @@
 /* Runs the step lists that records.py makes of tests/vectors/steps.txt, read from standard input, over the library: each call's answer, and
    after a case the next numbers and every cell, must be what the table says. A call that gives a number must change nothing, and a step that
-   is carried out no cell but one. The last line has the number of rows; the exit status is 1 where anything differs. */
+   is carried out no cell but one. The rows of a case are then run once more, by rights_steps, which must come to the same. The last line has the
+   number of rows; the exit status is 1 where anything differs. */
 #include <inttypes.h>
 #include <stdint.h>
 #include <stdio.h>
 #include <stdlib.h>
 #include <string.h>
 
-#define MOST (1048576 + 16)
+#include "rights.h"
 
-uint32_t rights_start(const uint8_t *file, size_t len, uint64_t *sessions, size_t ns, uint64_t *items, size_t ni, uint64_t *session, uint64_t *item);
-uint32_t rights_step(const uint8_t *file, size_t len, uint64_t *sessions, size_t ns, uint64_t *items, size_t ni, uint64_t *session, uint64_t *item,
-                     uint64_t row);
+#define MOST (1048576 + 16)
 
 /* a live state: 0 sessions, 1 items. `used` cells of each are looked at: eight more than are lent, which must keep what they hold */
 struct state { uint64_t cells[2][MOST], next[2]; };
-static struct state now, before, want;
+static struct state now, before, want, again;
 static size_t lent[2], used;
 static uint8_t file[4096];
 static size_t file_length;
 static int rows, cases, wrong, ended = 1;
+
+/* the steps of the case since its start, with what rights_step gave; `again` is the state before them */
+static uint64_t listed[4096];
+static uint32_t given[4096];
+static size_t steps;
 
 static void differs(int line, const char *what, uint64_t expected, uint64_t found) {
     printf("line %d: %s: expected %" PRIu64 ", found %" PRIu64 "\n", line, what, expected, found);
@@ -70,6 +74,21 @@ static void answered(int line, uint32_t expected, uint32_t found) {
     if (found != 0) compare(line, &before, &now);
 }
 
+/* runs the steps of the case once more, many rows a call, past each that gives a number */
+static void run_again(int line) {
+    for (size_t k = 0; k < steps; k++) {
+        uint64_t done = 0;
+        uint32_t number = rights_steps(file, file_length, again.cells[0], lent[0], again.cells[1], lent[1], &again.next[0], &again.next[1], listed + k,
+                                       steps - k, &done);
+        for (size_t i = 0; i < done; i++)
+            if (given[k + i] != 0) differs(line, "rows at once", given[k + i], 0);
+        k += done;
+        if (number != (k < steps ? given[k] : 0)) differs(line, "rows at once", k < steps ? given[k] : 0, number);
+        if (number == 0) break;
+    }
+    compare(line, &now, &again);
+}
+
 int main(void) {
     static char text[16384];
     int line, slice;
@@ -94,15 +113,21 @@ int main(void) {
             now.next[0] = a;
             now.next[1] = b;
             copy(&want, &now);
+            steps = 0;
         } else if (sscanf(text, "put %d %" SCNu64 " %" SCNu64, &slice, &a, &b) == 3) {
             if (a >= lent[slice]) bad(text);
             now.cells[slice][a] = want.cells[slice][a] = b;
         } else if (sscanf(text, "start %d %" SCNu32, &line, &answer) == 2) {
             copy(&before, &now);
             answered(line, answer, rights_start(file, file_length, now.cells[0], lent[0], now.cells[1], lent[1], &now.next[0], &now.next[1]));
+            steps = 0;
         } else if (sscanf(text, "step %d %" SCNu32 " %" SCNu64, &line, &answer, &a) == 3) {
             copy(&before, &now);
-            answered(line, answer, rights_step(file, file_length, now.cells[0], lent[0], now.cells[1], lent[1], &now.next[0], &now.next[1], a));
+            if (steps == 0) copy(&again, &now);
+            if (steps == sizeof listed / sizeof listed[0]) bad(text);
+            listed[steps] = a;
+            given[steps] = rights_step(file, file_length, now.cells[0], lent[0], now.cells[1], lent[1], &now.next[0], &now.next[1], a);
+            answered(line, answer, given[steps++]);
             if (written() > 1) differs(line, "cells written", 1, written());
         } else if (sscanf(text, "is %d %" SCNu64 " %" SCNu64, &slice, &a, &b) == 3) {
             if (a >= lent[slice]) bad(text);
@@ -111,6 +136,7 @@ int main(void) {
             want.next[0] = a;
             want.next[1] = b;
             compare(line, &want, &now);
+            if (steps > 0) run_again(line);
             ended = 1;
         } else {
             bad(text);

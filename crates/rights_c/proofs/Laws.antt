@@ -1,5 +1,6 @@
--- In order: numbers and lengths of what was written, by what writing answered; numbers and live states after starting and after a step.
-use mathlib.Core.Path.{_≡_, refl, sym, ap, _∙_}
+-- In order: numbers and lengths of what was written, by what writing answered; numbers and live states after starting, after a step and after many
+-- rows; what is told of a verdict.
+use mathlib.Core.Path.{_≡_, refl, sym, ap, _∙_, subst}
 use mathlib.Core.Bool.{Bool, true, false, cond}
 use mathlib.Core.List.{List, [], _∷_}
 use Prim.Native.Nat.{ℕ}
@@ -18,8 +19,15 @@ use Rattle.monitor.specs.Step.{stepIn}
 use Rattle.monitor.specs.declared.Next.{Next}
 use Rattle.monitor.specs.declared.Outcome.{Outcome}
 use Rattle.monitor.specs.declared.Outcome.the-variants as Outcome
+use Rattle.replay.specs.Rows.{Ran, ranAll, further, rowsIn}
+use Rattle.analyser.specs.Answer.{Told}
+use Rattle.analyser.specs.Never.{Means}
+use Rattle.analyser.specs.declared.Answer.{Answer as Analysis}
+use Rattle.analyser.specs.declared.Verdict.{Verdict}
+use Rattle.analyser.specs.declared.Verdict.the-variants as Verdict
 use Rattle.rights_c.specs.Numbers.{writeNumber, writeLength}
-use Rattle.rights_c.specs.Steps.{outcomeNumber, orKept, hostStarted, hostStepped}
+use Rattle.rights_c.specs.Steps.{outcomeNumber, orKept, hostStarted, hostStepped, hostRows, hostSteps}
+use Rattle.rights_c.specs.Verdicts.{verdictNumber, verdictCode}
 
 never : {C : Type 0} (m n : ℕ) → Length m ≡ Refused n → C
 never m n e = absurd (let z : _≡_ {A = ℕ} 0 1 = cc in omega arith)
@@ -90,16 +98,86 @@ unfolding hostStepped outcomeNumber refusedIn
 step-unread a n e s row = rw e (refl, refl)
 
 module _ (a : Answer) (p : Policy) (e : a ≡ rules p) (s : Lent) (row : ℕ) (x : After) (d : x ≡ stepIn (modelOf p) s row) where
-  -- the step gave a number
-  pub step-number : (n : ℕ) → x .outcome ≡ Outcome.Refused n → (n ≡ outcomeNumber (hostStepped a s row .outcome)) × (x .lent ≡ hostStepped a s row .lent)
-  unfolding hostStepped outcomeNumber
-  step-number n f =
-      let o = sym (ap (λ (y : After). y .outcome) d) ∙ f in
-      rw (e, o) (refl, ap (λ (y : After). y .lent) d)
+  -- the step was tried, and this is its number
+  pub step-told : (n : ℕ) → n ≡ outcomeNumber (x .outcome) → (n ≡ outcomeNumber (hostStepped a s row .outcome)) × (x .lent ≡ hostStepped a s row .lent)
+  unfolding hostStepped
+  step-told n f = rw e (f ∙ ap (λ (y : After). outcomeNumber (y .outcome)) d, ap (λ (y : After). y .lent) d)
 
-  -- the step was carried out
-  pub step-done : x .outcome ≡ Outcome.Done → (_≡_ {A = ℕ} 0 (outcomeNumber (hostStepped a s row .outcome))) × (x .lent ≡ hostStepped a s row .lent)
-  unfolding hostStepped outcomeNumber
-  step-done f =
-      let o = sym (ap (λ (y : After). y .outcome) d) ∙ f in
-      rw (e, o) (refl, ap (λ (y : After). y .lent) d)
+-- many rows
+
+further-same : (o : Outcome) (s : Lent) (done : ℕ) (f g : ℕ → Ran) → ((k : ℕ) → f k ≡ g k) → further o s done f ≡ further o s done g
+unfolding further
+further-same Outcome.Done s done f g e = e _
+further-same (Outcome.Refused n) s done f g e = refl
+
+-- rows of a file that was read are the rows of its model
+rows-same : (p : Policy) (s : Lent) (k : ℕ) (rows : List ℕ) → hostRows (rules p) s k rows ≡ rowsIn (modelOf p) s k rows
+unfolding hostRows hostStepped rowsIn
+rows-same p s k [] = refl
+rows-same p s k (row ∷ rows) =
+    let a = stepIn (modelOf p) s row in
+    further-same (a .outcome) (a .lent) k (λ j. hostRows (rules p) (a .lent) j rows) (λ j. rowsIn (modelOf p) (a .lent) j rows) (λ j. rows-same p (a .lent) j rows)
+
+-- a number, a live state and a count are what rows come to
+abbrev pub RanAs : ℕ → Lent → ℕ → Ran → Type 0
+RanAs n s k x = (n ≡ outcomeNumber (x .outcome)) × ((s ≡ x .lent) × (k ≡ x .count))
+
+-- the file gave a number
+pub steps-unread : (a : Answer) (n : ℕ) → a ≡ refusal n → (s : Lent) (rows : List ℕ) → RanAs n s 0 (hostSteps a s rows)
+unfolding hostSteps outcomeNumber
+steps-unread a n e s rows = rw e (refl, (refl, refl))
+
+module _ (a : Answer) (p : Policy) (e : a ≡ rules p) (s : Lent) (rows : List ℕ) (x : Ran) (d : x ≡ rowsIn (modelOf p) s 0 rows) where
+  ran-same : x ≡ hostSteps a s rows
+  unfolding hostSteps
+  ran-same = rw e (d ∙ sym (rows-same p s 0 rows))
+
+  -- the rows were tried, and this is their number
+  pub steps-told : (n : ℕ) → n ≡ outcomeNumber (x .outcome) → RanAs n (x .lent) (x .count) (hostSteps a s rows)
+  steps-told n f =
+      (f ∙ ap (λ (y : Ran). outcomeNumber (y .outcome)) ran-same, (ap (λ (y : Ran). y .lent) ran-same, ap (λ (y : Ran). y .count) ran-same))
+
+-- what is told of a verdict
+
+-- verdict and counts of an answer
+abbrev toldBy : Analysis → Told
+toldBy a = record { verdict = a .verdict; pairs = a .pairs; values = a .values }
+
+-- a number, a verdict's code and what an answer holds are what is told, and mean it
+abbrev pub Tells : List ℕ → List ℕ → List ℕ → List ℕ → ℕ → ℕ → Analysis → Told → Type 0
+Tells file question before after n code x t =
+    (n ≡ verdictNumber (t .verdict))
+    × ((code ≡ verdictCode (t .verdict))
+    × ((x .pairs ≡ t .pairs)
+    × ((x .values ≡ t .values)
+    × Means file question before after record { verdict = t .verdict; pairs = x .pairs; values = x .values; rows = x .rows })))
+
+module _ (file question before after : List ℕ) (x : Analysis) (t : Told) (e : toldBy x ≡ t) (m : Means file question before after x) where
+  tells : (v : Verdict) → x .verdict ≡ v → Tells file question before after (verdictNumber v) (verdictCode v) x t
+  tells v f =
+      let d = ap (λ (y : Told). y .verdict) e in
+      let g = sym f ∙ d in (
+        ap verdictNumber g,
+        (
+          ap verdictCode g,
+          (
+            ap (λ (y : Told). y .pairs) e,
+            (
+              ap (λ (y : Told). y .values) e,
+              subst (λ (w : Verdict). Means file question before after record { verdict = w; pairs = x .pairs; values = x .values; rows = x .rows }) d m,
+            ),
+          ),
+        ),
+      )
+
+  pub tells-number : (n : ℕ) → x .verdict ≡ Verdict.Refused n → Tells file question before after n 0 x t
+  unfolding verdictNumber verdictCode
+  tells-number n f = tells (Verdict.Refused n) f
+
+  pub tells-safe : x .verdict ≡ Verdict.Safe → Tells file question before after 0 0 x t
+  unfolding verdictNumber verdictCode
+  tells-safe f = tells Verdict.Safe f
+
+  pub tells-leak : x .verdict ≡ Verdict.Leak → Tells file question before after 0 1 x t
+  unfolding verdictNumber verdictCode
+  tells-leak f = tells Verdict.Leak f

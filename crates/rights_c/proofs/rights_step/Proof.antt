@@ -4,7 +4,7 @@ use Rattle.monitor.specs.Lent.{lentAs, leaves}
 use Rattle.policy.specs.Rules.{policyOf}
 use Rattle.rules.specs.Answers.{reading, rules}
 use Rattle.rules.proofs.Laws.{was-accepted, was-refused}
-use Rattle.rights_c.proofs.Laws.{step-unread, step-number, step-done}
+use Rattle.rights_c.proofs.Laws.{step-unread, step-told}
 use borrow.Author.Needs.{needs}
 use Rattle.rights_c.proofs.rights_step.Statement.{statement}
 use Rattle.rights_c.proofs.rights_step.Tie as tie
@@ -24,14 +24,8 @@ enum-told c = search needs
 step-at-requires : tie.Need-step-at-requires
 step-at-requires c κs = search needs
 
-enum-told-2 : tie.Need-enum-told-2
-enum-told-2 c = search needs
-
-enum-known-outcome : tie.Need-enum-known-outcome
-enum-known-outcome c = search needs
-
-cast-result-2 : tie.Need-cast-result-2
-cast-result-2 c = search needs
+number-of-requires : tie.Need-number-of-requires
+number-of-requires c κs = search needs
 
 returns : tie.Need-returns
 returns c =
@@ -53,27 +47,12 @@ same-length-2 c = search needs
 
 returns-2 : tie.Need-returns-2
 returns-2 c =
-    let k = c .before .before .before .before .before .before .before in
+    let k = c .before .before .before .before .before .before in
     let q = k .before .before .before .before .before .before .before .read-rules in
     let a = k .before .before .before .before .before .before .before .before .before .before .before .args in
     let s = lentAs (a .sessions .now) (a .items .now) record { session = a .session .now; item = a .item .now } in
     let x = leaves (k .step-at .result .outcome) (k .step-at .result .next) (k .step-at .last .1 .0) (k .step-at .last .1 .1 .0) in
-    step-done (reading (a .file .now)) (policyOf (q .result .rules)) (accepted k) s (a .row) x (k .step-at .ensures) (c .enum-told2 .given .1)
-
-same-length-3 : tie.Need-same-length-3
-same-length-3 c = search needs
-
-same-length-4 : tie.Need-same-length-4
-same-length-4 c = search needs
-
-returns-3 : tie.Need-returns-3
-returns-3 c =
-    let k = c .before .before .before .before .before .before .before .before in
-    let q = k .before .before .before .before .before .before .before .read-rules in
-    let a = k .before .before .before .before .before .before .before .before .before .before .before .args in
-    let s = lentAs (a .sessions .now) (a .items .now) record { session = a .session .now; item = a .item .now } in
-    let x = leaves (k .step-at .result .outcome) (k .step-at .result .next) (k .step-at .last .1 .0) (k .step-at .last .1 .1 .0) in
-    step-number (reading (a .file .now)) (policyOf (q .result .rules)) (accepted k) s (a .row) x (k .step-at .ensures) _ (c .before .outcome .given .1)
+    step-told (reading (a .file .now)) (policyOf (q .result .rules)) (accepted k) s (a .row) x (k .step-at .ensures) _ (c .number-of .ensures)
 
 pub rights-step-spec : {M : Type 1} → statement M
 rights-step-spec =
@@ -84,13 +63,8 @@ rights-step-spec =
     cast-result
     enum-told
     step-at-requires
-    enum-told-2
-    enum-known-outcome
-    cast-result-2
+    number-of-requires
     returns
     same-length
     same-length-2
-    returns-2
-    same-length-3
-    same-length-4
-    returns-3)
+    returns-2)

@@ -1,0 +1,171 @@
+//! A host in Rust: reads the rule file that its argument names, asks two questions, replays the leak and runs it by the monitor. It prints what
+//! examples/host.c prints.
+
+/// The library's calls, safe: slices are never null, and a `&mut` overlaps nothing. An error is the number that is given.
+mod rights {
+    mod c {
+        #[link(name = "rights_c", kind = "static")]
+        extern "C" {
+            pub fn rights_read(file: *const u8, len: usize) -> u32;
+            pub fn rights_write_back(file: *const u8, len: usize, out: *mut u8, out_len: usize, length: *mut usize) -> u32;
+            pub fn rights_start(file: *const u8, len: usize, sessions: *mut u64, n: usize, items: *mut u64, m: usize, next_session: *mut u64,
+                                next_item: *mut u64) -> u32;
+            pub fn rights_step(file: *const u8, len: usize, sessions: *mut u64, n: usize, items: *mut u64, m: usize, next_session: *mut u64,
+                               next_item: *mut u64, row: u64) -> u32;
+            pub fn rights_steps(file: *const u8, len: usize, sessions: *mut u64, n: usize, items: *mut u64, m: usize, next_session: *mut u64,
+                                next_item: *mut u64, rows: *const u64, r: usize, done: *mut u64) -> u32;
+            pub fn rights_replay(file: *const u8, len: usize, question: *const u8, qlen: usize, rows: *const u64, r: usize, sessions: *mut u64,
+                                 n: usize, items: *mut u64, m: usize) -> u32;
+            pub fn rights_analyse(file: *const u8, len: usize, question: *const u8, qlen: usize, rows: *mut u64, r: usize, verdict: *mut u64,
+                                  pairs: *mut u64, values: *mut u64, row_count: *mut u64) -> u32;
+        }
+    }
+
+    /// So many rows are enough, whatever the file.
+    pub const ROWS: usize = 66_049;
+    pub const OPEN: u64 = 1;
+
+    fn told(number: u32) -> Result<(), u32> {
+        if number == 0 { Ok(()) } else { Err(number) }
+    }
+
+    /// A row of 64 bits; each part is cut to its bits.
+    pub fn row(kind: u64, actor: u64, target: u64, value: u64) -> u64 {
+        (kind & 0xF) << 60 | (actor & 0xF_FFFF) << 40 | (target & 0xF_FFFF) << 20 | (value & 0xFFF) << 8
+    }
+
+    /// Kind, actor, target and value of a row.
+    pub fn parts(row: u64) -> [u64; 4] {
+        [row >> 60, row >> 40 & 0xF_FFFF, row >> 20 & 0xF_FFFF, row >> 8 & 0xFFF]
+    }
+
+    pub fn read(file: &[u8]) -> Result<(), u32> {
+        told(unsafe { c::rights_read(file.as_ptr(), file.len()) })
+    }
+
+    /// The rules of a file as bytes again.
+    pub fn write_back(file: &[u8]) -> Result<Vec<u8>, u32> {
+        let (mut out, mut length) = (vec![0; file.len()], 0);
+        told(unsafe { c::rights_write_back(file.as_ptr(), file.len(), out.as_mut_ptr(), out.len(), &mut length) })?;
+        out.truncate(length);
+        Ok(out)
+    }
+
+    /// A live state of a file.
+    pub struct Live<'a> {
+        file: &'a [u8],
+        pub sessions: Vec<u64>,
+        pub items: Vec<u64>,
+        pub next_session: u64,
+        pub next_item: u64,
+    }
+
+    impl<'a> Live<'a> {
+        /// Starts with so many cells for sessions and for items.
+        pub fn start(file: &'a [u8], sessions: usize, items: usize) -> Result<Live<'a>, u32> {
+            let mut s = Live { file, sessions: vec![0; sessions], items: vec![0; items], next_session: 0, next_item: 0 };
+            told(unsafe {
+                c::rights_start(file.as_ptr(), file.len(), s.sessions.as_mut_ptr(), s.sessions.len(), s.items.as_mut_ptr(), s.items.len(),
+                                &mut s.next_session, &mut s.next_item)
+            })?;
+            Ok(s)
+        }
+
+        pub fn step(&mut self, row: u64) -> Result<(), u32> {
+            told(unsafe {
+                c::rights_step(self.file.as_ptr(), self.file.len(), self.sessions.as_mut_ptr(), self.sessions.len(), self.items.as_mut_ptr(),
+                               self.items.len(), &mut self.next_session, &mut self.next_item, row)
+            })
+        }
+
+        /// Carries out rows up to the first that gives a number: how many were, and what came of it.
+        pub fn steps(&mut self, rows: &[u64]) -> (usize, Result<(), u32>) {
+            let mut done = 0;
+            let number = unsafe {
+                c::rights_steps(self.file.as_ptr(), self.file.len(), self.sessions.as_mut_ptr(), self.sessions.len(), self.items.as_mut_ptr(),
+                                self.items.len(), &mut self.next_session, &mut self.next_item, rows.as_ptr(), rows.len(), &mut done)
+            };
+            (done as usize, told(number))
+        }
+    }
+
+    /// Replays rows for a question, in so many cells of each.
+    pub fn replay(file: &[u8], question: &[u8], rows: &[u64], cells: usize) -> Result<(), u32> {
+        let (mut sessions, mut items) = (vec![0; cells], vec![0; cells]);
+        told(unsafe {
+            c::rights_replay(file.as_ptr(), file.len(), question.as_ptr(), question.len(), rows.as_ptr(), rows.len(), sessions.as_mut_ptr(), cells,
+                             items.as_mut_ptr(), cells)
+        })
+    }
+
+    /// Safe, or a leak with its rows; pairs of user and session value, and values of the asked item.
+    pub struct Answer {
+        pub leak: Option<Vec<u64>>,
+        pub pairs: u64,
+        pub values: u64,
+    }
+
+    pub fn analyse(file: &[u8], question: &[u8]) -> Result<Answer, u32> {
+        let mut rows = vec![0; ROWS];
+        let (mut verdict, mut pairs, mut values, mut count) = (0, 0, 0, 0);
+        told(unsafe {
+            c::rights_analyse(file.as_ptr(), file.len(), question.as_ptr(), question.len(), rows.as_mut_ptr(), rows.len(), &mut verdict, &mut pairs,
+                              &mut values, &mut count)
+        })?;
+        rows.truncate(count as usize);
+        Ok(Answer { leak: if verdict == 1 { Some(rows) } else { None }, pairs, values })
+    }
+}
+
+const CELLS: usize = 64;
+
+/// The number that was given, or 0.
+fn number(r: Result<(), u32>) -> u32 {
+    r.err().unwrap_or(0)
+}
+
+/// Prints the answer to a question; returns the rows of a leak, none where it is safe or refused.
+fn ask(what: &str, file: &[u8], question: &[u8]) -> Vec<u64> {
+    match rights::analyse(file, question) {
+        Err(n) => {
+            println!("{what}: refused, {n}");
+            Vec::new()
+        }
+        Ok(a) => {
+            let word = if a.leak.is_some() { "leak" } else { "safe" };
+            println!("{what}: {word}, {} pairs of user and session value, {} values of an item", a.pairs, a.values);
+            let rows = a.leak.unwrap_or_default();
+            for row in &rows {
+                let [kind, actor, target, value] = rights::parts(*row);
+                println!("    {kind} {actor} {target} {value}");
+            }
+            rows
+        }
+    }
+}
+
+fn main() -> std::io::Result<()> {
+    let path = std::env::args().nth(1).expect("a rule file");
+    let file = std::fs::read(path)?;
+    // any item, permission 0; who: user 1, user 0
+    let (user_1, user_0) = ([0x41, 0x80, 0x00], [0x40, 0x80, 0x00]);
+
+    println!("reading: {}", number(rights::read(&file)));
+    match rights::write_back(&file) {
+        Ok(again) => println!("writing back: 0, {} bytes", if again == file { "the same" } else { "other" }),
+        Err(n) => println!("writing back: {n}"),
+    }
+
+    ask("user 1", &file, &user_1);
+    let rows = ask("user 0", &file, &user_0);
+    println!("replaying the leak: {}", number(rights::replay(&file, &user_0, &rows, CELLS)));
+    println!("replaying it for user 1: {}", number(rights::replay(&file, &user_1, &rows, CELLS)));
+
+    let mut live = rights::Live::start(&file, CELLS, CELLS).expect("a start");
+    println!("step by step: {}", number(rows.iter().try_for_each(|row| live.step(*row))));
+    let mut live = rights::Live::start(&file, CELLS, CELLS).expect("a start");
+    let (done, came) = live.steps(&rows);
+    println!("all steps at once: {}, {}", number(came), if done == rows.len() { "all done" } else { "not all done" });
+    println!("user 1 opens with member 0: {}", number(live.step(rights::row(rights::OPEN, 1, live.next_session, 1))));
+    Ok(())
+}

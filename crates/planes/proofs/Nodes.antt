@@ -1,6 +1,6 @@
 -- Laws of nodes in lanes. In order: a comparison by its operator; a node by its operator; the answers of nodes in an array of words; a node over the
 -- right tables.
-use mathlib.Core.Path.{_≡_, refl, sym, ap, ap₂, _∙_}
+use mathlib.Core.Path.{_≡_, refl, sym, ap, ap₂, _∙_, subst}
 use mathlib.Core.Bool.{Bool, true, false, not, _&&_, _||_}
 use mathlib.Core.List.{List, [], _∷_, map}
 use Prim.Native.Nat.{ℕ, zero, suc, _+_, _*_, _≤_, _<_}
@@ -8,7 +8,7 @@ use native.Mathlib.Decide.{decLt}
 use native.Mathlib.Omega.{arith}
 use borrow.Author.Tests.{lt-ltb, le-ltb, le-leb, lt-leb, eq-eqb, ne-eqb}
 use lib.Dec.{ltb, leb, eqb}
-use lib.ListN.{getD, set, replicate, List·getD-map}
+use lib.ListN.{length, getD, set, replicate, length-map, List·getD-map}
 use Rattle.bits.specs.Set.{inSet, subsetOf, properOf}
 use Rattle.lanes.specs.Lanes.{bitOf}
 use Rattle.lanes.proofs.Bits.{bit-zero}
@@ -16,9 +16,9 @@ use Rattle.policy.specs.Policy.{Lists}
 use Rattle.policy.specs.Nodes.{opOf, firstOf, secondOf}
 use Rattle.formulas.specs.Value.{operand, sizeOfOperand}
 use Rattle.formulas.specs.Meaning.{compared, nodeSays}
-use Rattle.formulas.specs.Parts.{comparedBy, joinedBy, joined}
+use Rattle.formulas.specs.Parts.{comparedBy, joinedBy, joined, Said}
 use Rattle.formulas.specs.declared.Holders.{Holders}
-use Rattle.formulas.proofs.Laws.{says-joined}
+use Rattle.formulas.proofs.Laws.{says-joined, said-start, said-next}
 use Rattle.planes.specs.Put.{withValue}
 use Rattle.planes.specs.Word.{Operands, operandIn, numberIn, comparedIn, nodeIn}
 use Rattle.planes.specs.declared.operand.Operand.{Operand}
@@ -47,6 +47,10 @@ module _ (op : ℕ) (x y : Operand) (v : ℕ) where
   pub compared-proper : op ≡ 10 → comparedIn op x y v ≡ subsetOf (x .size) (numberIn x v) (y .size) (numberIn y v) && not (subsetOf (y .size) (numberIn y v) (x .size) (numberIn x v))
   unfolding comparedIn comparedBy properOf
   compared-proper e = simp e
+
+  pub compared-none : (op ≡ 5 → ⊥) → (op ≡ 6 → ⊥) → (op ≡ 7 → ⊥) → (op ≡ 8 → ⊥) → (op ≡ 9 → ⊥) → (op ≡ 10 → ⊥) → comparedIn op x y v ≡ false
+  unfolding comparedIn comparedBy
+  compared-none a b c d e f = simp (ne-eqb op 5 a, ne-eqb op 6 b, ne-eqb op 7 c, ne-eqb op 8 d, ne-eqb op 9 e, ne-eqb op 10 f)
 
 -- at most is below or the same
 pub most-is : (x y : ℕ) → ltb x y || eqb x y ≡ leb x y
@@ -115,3 +119,21 @@ node-over c h at values sizes shifts bits before node w j T hw hj =
     ap (joined (map (λ x. bitOf x j) before) node)
     (sym (rw (T .number v (firstOf node) m (first-lt node), T .number v (secondOf node) m (second-lt node), T .size (firstOf node) (first-lt node), T .size (secondOf node) (second-lt node)) refl))
     ∙ says-joined c (withValue h at v) (map (λ x. bitOf x j) before) node
+
+-- the answers of the first nodes in lane j of an array of words: none
+pub lanes-start : (c : Lists) (v : Holders) (nodes : List ℕ) (j : ℕ) → Said c v nodes 0 (map (λ (x : ℕ). bitOf x j) (replicate 256 0)) (bitOf 0 j)
+lanes-start c v nodes j =
+    record {
+      answers = λ k. ap (λ (l : List Bool). getD l k false) (map-none 256 j) ∙ said-start c v nodes .answers k;
+      newest = bit-zero j ∙ said-start c v nodes .newest;
+    }
+
+-- one more
+pub lanes-next : (c : Lists) (h : Holders) (at : ℕ) (nodes values sizes shifts bits before : List ℕ) (last r i w j : ℕ) → Operands c h at values sizes shifts bits → w < 4 → j < 64
+    → Said c (withValue h at (64 * w + j)) nodes i (map (λ (x : ℕ). bitOf x j) before) (bitOf last j) → i < length before → bitOf r j ≡ nodeIn values sizes shifts bits before (getD nodes i 0) w j
+    → Said c (withValue h at (64 * w + j)) nodes (i + 1) (map (λ (x : ℕ). bitOf x j) (set before i r)) (bitOf r j)
+lanes-next c h at nodes values sizes shifts bits before last r i w j T hw hj S l e =
+    let v = withValue h at (64 * w + j) in
+    let f : ℕ → Bool = λ x. bitOf x j in
+    subst (λ (m : List Bool). Said c v nodes (i + 1) m (bitOf r j)) (sym (map-set f before i r))
+    (said-next c v nodes i (map f before) (bitOf last j) (bitOf r j) S (omega (arith, length-map before f)) (e ∙ node-over c h at values sizes shifts bits before (getD nodes i 0) w j T hw hj))

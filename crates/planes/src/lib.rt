@@ -117,16 +117,48 @@ pub fn held_by(
     let h = put_at(at);
     let l = fields_of(class_of(classes, h), h);
     let a = asked(
-        &o.values, &o.sizes, &l.shifts, &l.bits, nodes, f, n, among[0], 0,
+        &o.values,
+        &o.sizes,
+        &l.shifts,
+        &l.bits,
+        nodes,
+        f,
+        n,
+        among[0],
+        0,
     );
     let b = asked(
-        &o.values, &o.sizes, &l.shifts, &l.bits, nodes, f, n, among[1], 1,
+        &o.values,
+        &o.sizes,
+        &l.shifts,
+        &l.bits,
+        nodes,
+        f,
+        n,
+        among[1],
+        1,
     );
     let c = asked(
-        &o.values, &o.sizes, &l.shifts, &l.bits, nodes, f, n, among[2], 2,
+        &o.values,
+        &o.sizes,
+        &l.shifts,
+        &l.bits,
+        nodes,
+        f,
+        n,
+        among[2],
+        2,
     );
     let d = asked(
-        &o.values, &o.sizes, &l.shifts, &l.bits, nodes, f, n, among[3], 3,
+        &o.values,
+        &o.sizes,
+        &l.shifts,
+        &l.bits,
+        nodes,
+        f,
+        n,
+        among[3],
+        3,
     );
     [a, b, c, d]
 }

@@ -1,56 +1,83 @@
+-- `planes::node::word` meets its contract. The loop's invariant: whatever lists, holders and word the tables and planes are of, the answers of the
+-- first i nodes stand in each lane of the array, and last has the newest. The measure is what is left of the count.
+use mathlib.Core.Path.{_≡_, refl, sym, ap, _∙_, subst}
+use mathlib.Core.Bool.{Bool, false}
+use mathlib.Core.List.{List, map}
+use Prim.Native.Nat.{ℕ, _+_, _*_, _-_, _≤_, _<_}
+use native.Mathlib.Omega.{arith}
+use lib.ListN.{length, getD, length-map}
+use Rattle.lanes.specs.Lanes.{bitOf}
+use Rattle.lanes.proofs.Bits.{bit-zero}
+use Rattle.policy.specs.Policy.{Lists}
+use Rattle.policy.specs.Rules.{nodesOf}
+use Rattle.policy.proofs.Laws.{nodes-length}
+use Rattle.formulas.specs.Meaning.{nodeSays}
+use Rattle.formulas.specs.Parts.{Said}
+use Rattle.formulas.specs.declared.Holders.{Holders}
+use Rattle.formulas.proofs.Laws.{said-all, nodes-at}
+use Rattle.planes.specs.Put.{withValue}
+use Rattle.planes.specs.Word.{Planes, Operands, nodeIn}
+use Rattle.planes.proofs.Nodes.{lanes-start, lanes-next}
 use borrow.Author.Needs.{needs}
 use Rattle.planes.proofs.node.word.Statement.{statement}
 use Rattle.planes.proofs.node.word.Tie as tie
-use Rattle.planes.proofs.node.word.Reads as reads
-use Rattle.planes.proofs.node.word.Lts as lts
-use Rattle.formulas.proofs.node.at.Reads as at-reads
-use Rattle.planes.proofs.node.says.Reads as says-reads
 
 abbrev Inv-loop : tie.InvT-loop
-Inv-loop planes values sizes shifts bits nodes f n before₀ last₀ i₀ i-end before last i = ?
+Inv-loop planes values sizes shifts bits nodes f n before₀ last₀ i₀ i-end before last i =
+    (i ≤ i-end) × (i-end ≡ n) × (length before ≡ 256)
+    × ((c : Lists) (h : Holders) (at : ℕ) → Operands c h at values sizes shifts bits → (w : ℕ) → Planes w planes → (j : ℕ) → j < 64
+    → Said c (withValue h at (64 * w + j)) (nodesOf nodes f n) i (map (λ (x : ℕ). bitOf x j) before) (bitOf last j))
 
 abbrev μ-loop : tie.MeasureT-loop
-μ-loop planes values sizes shifts bits nodes f n before₀ last₀ i₀ i-end before last i = ?
+μ-loop planes values sizes shifts bits nodes f n before₀ last₀ i₀ i-end before last i = i-end - i
 
--- src/node.rt:99:5
 loop-holds : tie.Need-loop-holds Inv-loop μ-loop
-loop-holds c = search needs
+loop-holds c = (search needs, search needs, search needs, λ l h at T w p j m. lanes-start l (withValue h at (64 * w + j)) _ j)
 
--- src/node.rt:106:13
 slice-aggregate-says : tie.Need-slice-aggregate-says Inv-loop μ-loop
 slice-aggregate-says c = search needs
 
--- src/node.rt:107:13
 at-requires : tie.Need-at-requires Inv-loop μ-loop
 at-requires c κs = search needs
 
--- src/node.rt:100:9
 says-requires : tie.Need-says-requires Inv-loop μ-loop
 says-requires c κs = search needs
 
--- src/node.rt:109:9
 mul-before : tie.Need-mul-before Inv-loop μ-loop
 mul-before c = search needs
 
--- src/node.rt:109:9
 array-write-before : tie.Need-array-write-before Inv-loop μ-loop
 array-write-before c = search needs
 
--- src/node.rt:99:9
 add-i : tie.Need-add-i Inv-loop μ-loop
 add-i c = search needs
 
--- src/node.rt:99:5
 loop-less : tie.Need-loop-less Inv-loop μ-loop
 loop-less c = search needs
 
--- src/node.rt:99:5
 loop-again : tie.Need-loop-again Inv-loop μ-loop
-loop-again c = search needs
+loop-again c =
+    let t = c .before .before .before .before .loop in
+    let a = c .before .before .before .before .before .before .before .before .before .before .before .args in (
+      search needs,
+      search needs,
+      search needs,
+      λ l h at T w p j m.
+          lanes-next l h at (nodesOf (a .nodes .now) (a .f) (a .n)) (a .values .now) (a .sizes .now) (a .shifts .now) (a .bits .now) (t .before) (t .last) (c .says .result) (t .i) w j T (p .below) m
+          (t .inv .3 l h at T w p j m) (omega arith)
+          (c .says .ensures w p j m ∙ ap (λ (x : ℕ). nodeIn (a .values .now) (a .sizes .now) (a .shifts .now) (a .bits .now) (t .before) x w j) (c .before .at .ensures ∙ sym (nodes-at (a .nodes .now) (a .f) (a .n) (t .i) (omega arith)))),
+    )
 
--- src/node.rt:85:1
 returns : tie.Need-returns Inv-loop μ-loop
-returns c = search needs
+returns c l h at T w p =
+    let t = c .before .loop in
+    let a = c .before .before .before .before .before .before .before .before .args in
+    let e : a .n ≡ t .i = omega arith in
+    record {
+      each = λ j m.
+          said-all l (withValue h at (64 * w + j)) (nodesOf (a .nodes .now) (a .f) (a .n)) (t .i) (map (λ (x : ℕ). bitOf x j) (t .before)) (bitOf (t .last) j) (t .inv .3 l h at T w p j m)
+          (nodes-length (a .nodes .now) (a .f) (a .n) ∙ e);
+    }
 
 pub word-spec : {M : Type 1} → statement M
 word-spec =

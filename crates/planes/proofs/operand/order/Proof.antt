@@ -77,9 +77,10 @@ returns c =
     let t = c .before .loop in
     let a = c .before .before .before .before .before .before .before .before .args in
     let e : t .k ≡ 0 = omega arith in
-    let all : (x : ℕ) → x / 2 ^ t .k ≡ x = λ x. ap (λ (k : ℕ). x / 2 ^ k) e ∙ omega arith in
-    (told-as (a .planes .now) _ _ _ (t .inv .1) (λ v l. ap₂ ltb (all (numberIn (a .x) v)) (all (numberIn (a .y) v))),
-    told-as (a .planes .now) _ _ _ (t .inv .2) (λ v l. ap₂ eqb (all (numberIn (a .x) v)) (all (numberIn (a .y) v))))
+    let all : (x : ℕ) → x / 2 ^ t .k ≡ x = λ x. ap (λ (k : ℕ). x / 2 ^ k) e ∙ omega arith in (
+      told-as (a .planes .now) _ _ _ (t .inv .1) (λ v l. ap₂ ltb (all (numberIn (a .x) v)) (all (numberIn (a .y) v))),
+      told-as (a .planes .now) _ _ _ (t .inv .2) (λ v l. ap₂ eqb (all (numberIn (a .x) v)) (all (numberIn (a .y) v))),
+    )
 
 pub order-spec : {M : Type 1} → statement M
 order-spec =

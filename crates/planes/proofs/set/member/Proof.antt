@@ -63,7 +63,7 @@ loop-again c =
     let k = c .before .before .before .constant in
     let o = c .before .before .order in
     let same : Told (a .planes .now) (λ v. eqb (numberIn (a .x) v) (t .i)) (o .result .same) =
-        told-as (a .planes .now) _ _ _ (o .ensures .1) (λ v l. ap (eqb (numberIn (a .x) v)) (ap (λ (z : Operand). numberIn z v) (k .ensures) ∙ number-constant (t .i) 0 v)) in
+    told-as (a .planes .now) _ _ _ (o .ensures .1) (λ v l. ap (eqb (numberIn (a .x) v)) (ap (λ (z : Operand). numberIn z v) (k .ensures) ∙ number-constant (t .i) 0 v)) in
     (search needs, member-turn (a .planes .now) (numberIn (a .x)) (λ v. inSet (a .y .size) (numberIn (a .y) v)) (t .i) (t .r) _ _ (t .inv .1) same (c .before .has2 .ensures))
 
 returns-2 : tie.Need-returns-2 Inv-loop μ-loop

@@ -12,7 +12,8 @@ use Rattle.lanes.specs.Lanes.{Lanes}
 use Rattle.lanes.proofs.Laws.{lanes-as}
 use Rattle.runs.specs.Edge.{opensWith, changesTo, makesWith, modifiesTo, accesses}
 use Rattle.allowed.specs.Allowed.{opening, changing, making, modifying, accessing, userValue, modelOf}
-use Rattle.allowed.specs.Sweep.{withValue, swept}
+use Rattle.planes.specs.Put.{withValue}
+use Rattle.allowed.specs.Sweep.{swept}
 use Rattle.allowed.proofs.LaneLaws.{test-holds, test-fails}
 
 module _ (p : Policy) (x : List ℕ) where

@@ -1,6 +1,6 @@
 -- Laws of what a formula of rules says, and of a value put in. In order: the value of a user; a formula that is there, and one that is not;
--- what is swept, by the attributes of the holder.
-use mathlib.Core.Path.{_≡_, sym, ap, _∙_}
+-- what is swept.
+use mathlib.Core.Path.{_≡_, refl, sym, ap, ap₂, _∙_}
 use mathlib.Core.Bool.{Bool, true, false, _&&_}
 use mathlib.Core.List.{List, []}
 use Prim.Native.Nat.{ℕ, _+_, _≤_, _<_}
@@ -16,9 +16,13 @@ use Rattle.policy.specs.declared.Rules.{Rules}
 use Rattle.policy.proofs.Laws.{values-length, formulas-length}
 use Rattle.formulas.specs.Meaning.{said, holds}
 use Rattle.formulas.specs.declared.Holders.{Holders}
+use Rattle.lanes.specs.Lanes.{laneOf, Lanes}
+use Rattle.lanes.proofs.Laws.{lanes-as}
 use Rattle.lists.specs.Lists.{listed}
+use Rattle.planes.specs.Put.{withValue}
 use Rattle.allowed.specs.Allowed.{says}
-use Rattle.allowed.specs.Sweep.{withValue, swept}
+use Rattle.allowed.specs.Sweep.{swept}
+use Rattle.allowed.proofs.LaneLaws.{and-false}
 
 module _ (v : Values) (u : ℕ) where
   pub value-at : u < v .count → getD (valuesOf v) u 0 ≡ getD (v .values) u 0
@@ -44,14 +48,19 @@ module _ (r : Rules) (f : ℕ) (h : Holders) where
       ap (holds (listsOf (r .classes)) h)
       (List·getD-eq-default (formulasOf (r .nodes) (r .lengths) (4 + r .permissions)) [] {n = f} (omega (arith, formulas-length (r .nodes) (r .lengths) (4 + r .permissions))))
 
--- the lists that are asked are those of the class
-module _ (r : Rules) (f at : ℕ) (h : Holders) (c : Class) (of : attrsOf c ≡ ofHolder (listsOf (r .classes)) at) (v : ℕ) where
-  swept-is : (b : Bool) → listed (attrsOf c) v ≡ b → swept (policyOf r) f at h v ≡ b && says (policyOf r) f (withValue h at v)
+-- what is swept: no value where there is no such formula, and otherwise those values of the class that formula f, by its nodes, is true of
+module _ (r : Rules) (f at : ℕ) (h : Holders) (x : List ℕ) where
+  pub swept-none : 4 + r .permissions ≤ f → Lanes (λ v. false) x → Lanes (swept (policyOf r) f at h) x
   unfolding swept policyOf
-  swept-is b e = ap (λ (t : Bool). t && says (policyOf r) f (withValue h at v)) (ap (λ (l : List Attr). listed l v) (sym of) ∙ e)
+  swept-none l e =
+      lanes-as (λ v. false) (swept (policyOf r) f at h) x e
+      (λ v m. sym (ap (λ (t : Bool). listed (ofHolder (listsOf (r .classes)) at) v && t) (says-none r f (withValue h at v) l) ∙ and-false (listed (ofHolder (listsOf (r .classes)) at) v)))
 
-  pub swept-listed : listed (attrsOf c) v ≡ true → swept (policyOf r) f at h v ≡ says (policyOf r) f (withValue h at v)
-  swept-listed = swept-is true
-
-  pub swept-not-listed : listed (attrsOf c) v ≡ false → swept (policyOf r) f at h v ≡ false
-  swept-not-listed = swept-is false
+  pub swept-held : (c : Class) (n : ℕ) (among : List ℕ) → f < 4 + r .permissions → n ≡ getD (r .lengths) f 0 → attrsOf c ≡ ofHolder (listsOf (r .classes)) at → Lanes (listed (attrsOf c)) among
+      → Lanes (λ v. (laneOf among v && holds (listsOf (r .classes)) (withValue h at v) (nodesOf (r .nodes) f n))) x → Lanes (swept (policyOf r) f at h) x
+  unfolding swept policyOf
+  swept-held c n among l e of a k =
+      lanes-as _ (swept (policyOf r) f at h) x k
+      (λ v m.
+      ap₂ _&&_ (a .each v m ∙ ap (λ (o : List Attr). listed o v) of)
+      (ap (λ (z : ℕ). holds (listsOf (r .classes)) (withValue h at v) (nodesOf (r .nodes) f z)) e ∙ sym (says-at r f (withValue h at v) l)))

@@ -1,22 +1,20 @@
--- Laws of a file's rules, for the theory of answers. In order: values in the lists are narrow; how many values there are and what rows they need;
--- what stands at the start; rules in memory.
-use mathlib.Core.Path.{_≡_, refl, sym, ap, _∙_, subst}
-use mathlib.Core.Bool.{Bool, true, false, cond}
+-- Laws of a file's rules, for the theory of answers. In order: how many values there are and what rows they need; what stands at the start;
+-- rules in memory.
+use mathlib.Core.Path.{_≡_, refl, sym, ap, _∙_}
+use mathlib.Core.Bool.{Bool, cond}
 use mathlib.Core.List.{List, [], _∷_, map}
-use Prim.Native.Nat.{ℕ, zero, suc, _+_, _*_, _/_, _%_, _^_, _≤_, _<_}
-use native.Mathlib.Nat.{div-lt-iff-lt-mul}
+use Prim.Native.Nat.{ℕ, zero, suc, _+_, _*_, _^_, _≤_, _<_}
 use native.Mathlib.Omega.{arith}
-use borrow.Author.Tests.{ltb-true, eqb-true, le-ltb}
-use lib.Dec.{ltb, eqb}
+use borrow.Author.Tests.{le-ltb}
+use lib.Dec.{ltb}
 use lib.ListN.{length, getD, length-map}
-use lib.Pow.{pow-pos, pow-mono, pow-add}
-use Rattle.bits.proofs.Set.{both-true}
+use lib.Pow.{pow-mono}
 use Rattle.bits.proofs.Packed.{getD-tab}
-use Rattle.policy.specs.Policy.{Attr, Session, Policy, fewestBits, bitsFor, codes, width}
+use Rattle.policy.specs.Policy.{Session, Policy, width}
 use Rattle.policy.specs.Rules.{attrsOf, listsOf, sessionsOf, valuesOf, policyOf}
 use Rattle.policy.specs.declared.Rules.{Rules}
-use Rattle.policy.proofs.Laws.{fewest-enough, values-length, sessions-length}
-use Rattle.lists.specs.Lists.{inLists, listed}
+use Rattle.policy.proofs.Laws.{values-length, sessions-length}
+use Rattle.lists.proofs.Narrow.{listed-narrow}
 use Rattle.lists.specs.Sound.{Sound, startingSession}
 use Rattle.runs.specs.State.{closed, opened, begin, sessionAt, itemAt}
 use Rattle.runs.specs.Outcome.{Below}
@@ -24,28 +22,6 @@ use Rattle.allowed.specs.Allowed.{modelOf}
 use Rattle.monitor.specs.Start.{beginning}
 use Rattle.analyser.specs.Answer.{sessionValues, itemValues, rowsNeeded}
 use Rattle.analyser.specs.Decide.{rowsFor}
-
--- an attribute's codes fit its bits
-codes-fit : (a : Attr) → codes a ≤ 2 ^ bitsFor a
-unfolding codes bitsFor
-codes-fit a = go (eqb (a .kind) 0)
-  where
-    go : (b : Bool) → cond b (a .size) (2 ^ a .size) ≤ 2 ^ cond b (fewestBits (a .size)) (a .size)
-    go true = fewest-enough (a .size)
-    go false = omega arith
-
--- a value in the lists is as narrow as they are
-in-narrow : (l : List Attr) (v : ℕ) → inLists l v ≡ true → v < 2 ^ width l
-unfolding inLists width
-in-narrow [] v e = let z : v ≡ 0 = eqb-true v 0 e in omega arith
-in-narrow (a ∷ l) v e =
-    let m = 2 ^ width l in
-    let h : v / m < codes a = ltb-true (v / m) (codes a) (both-true (ltb (v / m) (codes a)) (inLists l (v % m)) e .0) in
-    subst (λ (z : ℕ). v < z) (sym (pow-add 2 (bitsFor a) (width l))) (div-lt-iff-lt-mul (pow-pos (width l)) .0 (omega (arith, h, codes-fit a)))
-
-pub listed-narrow : (l : List Attr) (v : ℕ) → listed l v ≡ true → v < 2 ^ width l
-unfolding listed
-listed-narrow l v e = in-narrow l v (both-true (ltb v 256) (inLists l v) e .1)
 
 module _ (p : Policy) where
   pub needed-is : rowsNeeded p ≡ sessionValues p + itemValues p * (sessionValues p + 1) + 1

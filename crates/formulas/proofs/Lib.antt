@@ -1,2 +1,3 @@
 pub mod Laws  -- what nodes say, one after another
 pub mod TableLaws  -- tables of all operands, filled in class by class
+pub mod FieldLaws  -- where the operands of one holder lie

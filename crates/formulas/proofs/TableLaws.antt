@@ -143,7 +143,7 @@ unfolding bitsFor fewestBits fewestFrom
 no-bits = refl
 
 -- past the end an attribute takes no bits
-none-bits : (l : List Attr) (k : ℕ) → length l ≤ k → bitsFor (attrOf l k) ≡ 0
+pub none-bits : (l : List Attr) (k : ℕ) → length l ≤ k → bitsFor (attrOf l k) ≡ 0
 unfolding attrOf
 none-bits l k h = ap bitsFor (List·getD-eq-default l record { kind = 0; size = 0 } h) ∙ no-bits
 

@@ -1,13 +1,16 @@
 // What a formula says of the values that its holders have.
 ghost use mathlib.Core.Path.{_≡_};
 ghost use Prim.Native.Nat.{_≤_};
-ghost use Rattle.policy.specs.Rules.{listsOf, nodesOf};
+ghost use Rattle.bits.specs.Packed.{tab};
+ghost use Rattle.policy.specs.Rules.{attrsOf, listsOf, nodesOf};
 ghost use Rattle.formulas.specs.Meaning.{holds as holdsOf};
+ghost use Rattle.formulas.specs.Value.{operand, sizeOfOperand, shiftIn, bitsIn};
 ghost use Rattle.formulas.specs.Parts.{Said};
 
-mod node;
+pub mod node;
 mod table;
 
+use policy::Class;
 use policy::Classes;
 
 // The packed values of the holders that a formula can look at.
@@ -17,6 +20,42 @@ pub struct Holders {
     pub newsession: u8,
     pub item: u8,
     pub newitem: u8,
+}
+
+// The number that each of the 256 operands stands for, and the size of its list.
+pub struct Operands {
+    pub values: [u8; 256],
+    pub sizes: [u8; 256],
+}
+
+// Where the value of each operand of one holder begins in the holder's packed value, and how many bits it has there.
+pub struct Fields {
+    pub shifts: [u8; 256],
+    pub bits: [u8; 256],
+}
+
+// What all operands stand for.
+pub fn operands_of(classes: Classes, holders: Holders) -> Operands
+    ensures { λ r. ⌜ r .values ≡ tab (operand (listsOf classes) holders) 0 256 ⌝ }
+    ensures { λ r. ⌜ r .sizes ≡ tab (sizeOfOperand (listsOf classes)) 0 256 ⌝ }
+{
+    let mut values: [u8; 256] = [0; 256];
+    let mut sizes: [u8; 256] = [0; 256];
+    table::fill_all(&mut values, &mut sizes, classes, holders);
+    Operands { values, sizes }
+}
+
+// Where the operands of holder h lie, which has the attributes of the class. Those of other holders lie nowhere.
+pub fn fields_of(class: Class, h: u8) -> Fields
+    ensures { λ r. ⌜ r .shifts ≡ tab (shiftIn (attrsOf class) h) 0 256 ⌝ }
+    ensures { λ r. ⌜ r .bits ≡ tab (bitsIn (attrsOf class) h) 0 256 ⌝ }
+{
+    let mut shifts: [u8; 256] = [0; 256];
+    let mut bits: [u8; 256] = [0; 256];
+    if h < 8 {
+        table::lay(&mut shifts, &mut bits, h as usize, class);
+    }
+    Fields { shifts, bits }
 }
 
 // What formula f says from node k on, where the answers of the first k nodes are known. The value of every operand is worked out once.

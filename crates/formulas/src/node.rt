@@ -11,7 +11,7 @@ use bits::proper;
 use bits::subset;
 
 // Node i of formula f, or 0 past the end.
-pub(super) fn at(nodes: &[u32], f: usize, i: usize) -> u32
+pub fn at(nodes: &[u32], f: usize, i: usize) -> u32
     ensures { λ r. ⌜ r ≡ getD (now (nodes .entry)) (64 * f + i) 0 ⌝ }
 {
     if f < nodes.len() / 64 + 1 {

@@ -44,7 +44,7 @@ bit-or a b k =
     ap (λ (z : ℕ). eqb (z % 2) 1) (or-shr a b k)
     ∙ low max _||_ (omega arith, refl) (omega arith, refl) (omega arith, refl) (omega arith, refl) _ _ (a / 2 ^ k) (b / 2 ^ k) (or-step (a / 2 ^ k) (b / 2 ^ k))
 
-bit-xor : (a b k : ℕ) → bitOf (bitXor a b) k ≡ xor (bitOf a k) (bitOf b k)
+pub bit-xor : (a b k : ℕ) → bitOf (bitXor a b) k ≡ xor (bitOf a k) (bitOf b k)
 unfolding bitOf xor
 bit-xor a b k =
     ap (λ (z : ℕ). eqb (z % 2) 1) (xor-shr a b k)

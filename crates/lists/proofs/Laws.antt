@@ -22,7 +22,7 @@ use Rattle.policy.specs.declared.Class.{Class}
 use Rattle.policy.proofs.Laws.{attrs-length, attrs-at, value-lt}
 use Rattle.lists.specs.Lists.{inLists, listed}
 
-within-is : (n x : ℕ) → within 0 n x ≡ ltb x n
+pub within-is : (n x : ℕ) → within 0 n x ≡ ltb x n
 unfolding within
 within-is n x = ap (λ (t : Bool). t && ltb x n) (le-leb 0 x (omega arith))
 
@@ -58,7 +58,7 @@ module _ (c : Class) where
   in-none k v h = ap (λ (l : List Attr). inLists l v) (drop-of-length-le (attrsOf c) {i = k} (omega (arith, attrs-length c)))
 
   module _ (k v left : ℕ) (h : k < c .count) (w : left ≡ width (drop (k + 1) (attrsOf c))) where
-    in-next : inLists (drop k (attrsOf c)) v ≡ within 0 (codes (attrAt c k)) (v / 2 ^ left) && inLists (drop (k + 1) (attrsOf c)) (v % 2 ^ left)
+    pub in-next : inLists (drop k (attrsOf c)) v ≡ within 0 (codes (attrAt c k)) (v / 2 ^ left) && inLists (drop (k + 1) (attrsOf c)) (v % 2 ^ left)
     in-next =
         later-in k v h
         ∙ ap (λ (n : ℕ). within 0 (codes (attrAt c k)) (v / 2 ^ n) && inLists (drop (k + 1) (attrsOf c)) (v % 2 ^ n)) (sym w)

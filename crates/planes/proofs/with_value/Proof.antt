@@ -1,8 +1,9 @@
--- `allowed::with_value` meets its contract: the session, the proposed session, the proposed item.
+-- `planes::with_value` meets its contract: the session, the proposed session, the proposed item.
 use borrow.Author.Tests.{eq-eqb, ne-eqb}
-use Rattle.allowed.specs.Sweep.{withValue}
-use Rattle.allowed.proofs.formula.with_value.Statement.{statement}
-use Rattle.allowed.proofs.formula.with_value.Tie as tie
+use Rattle.planes.specs.Put.{withValue}
+use borrow.Author.Needs.{needs}
+use Rattle.planes.proofs.with_value.Statement.{statement}
+use Rattle.planes.proofs.with_value.Tie as tie
 
 returns : tie.Need-returns
 unfolding withValue

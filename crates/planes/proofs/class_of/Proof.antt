@@ -1,9 +1,10 @@
--- `allowed::class_of` meets its contract: users, sessions, items.
+-- `planes::class_of` meets its contract: users, sessions, items.
 use borrow.Author.Tests.{eq-eqb, ne-eqb, le-leb, lt-leb}
 use Rattle.policy.specs.Rules.{listsOf}
 use Rattle.policy.specs.Nodes.{ofHolder}
-use Rattle.allowed.proofs.formula.class_of.Statement.{statement}
-use Rattle.allowed.proofs.formula.class_of.Tie as tie
+use borrow.Author.Needs.{needs}
+use Rattle.planes.proofs.class_of.Statement.{statement}
+use Rattle.planes.proofs.class_of.Tie as tie
 
 returns : tie.Need-returns
 unfolding ofHolder listsOf

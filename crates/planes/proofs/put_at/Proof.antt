@@ -1,0 +1,21 @@
+-- `planes::put_at` meets its contract: the session, the proposed session, the proposed item.
+use borrow.Author.Tests.{eq-eqb, ne-eqb}
+use Rattle.planes.specs.Put.{putAt}
+use borrow.Author.Needs.{needs}
+use Rattle.planes.proofs.put_at.Statement.{statement}
+use Rattle.planes.proofs.put_at.Tie as tie
+
+returns : tie.Need-returns
+unfolding putAt
+returns c = simp (eq-eqb _ _ (c .if1 .taken))
+
+returns-2 : tie.Need-returns-2
+unfolding putAt
+returns-2 c = simp (ne-eqb _ _ (c .before .if1 .left), eq-eqb _ _ (c .if2 .taken))
+
+returns-3 : tie.Need-returns-3
+unfolding putAt
+returns-3 c = simp (ne-eqb _ _ (c .before .if1 .left), ne-eqb _ _ (c .if2 .left))
+
+pub put-at-spec : {M : Type 1} → statement M
+put-at-spec = tie.close (tie.spec returns returns-2 returns-3)

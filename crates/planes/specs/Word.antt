@@ -1,0 +1,51 @@
+-- Private vocabulary: words of 64 lanes, one bit a lane. Lane j of word w stands for the number 64 * w + j.
+-- Assumes nothing.
+use mathlib.Core.Path.{_≡_}
+use mathlib.Core.Bool.{Bool}
+use mathlib.Core.List.{List, map}
+use Prim.Native.Nat.{ℕ, _+_, _*_, _/_, _%_, _^_, _<_}
+use lib.ListN.{getD}
+use Rattle.lanes.specs.Lanes.{bitOf}
+use Rattle.policy.specs.Policy.{Lists}
+use Rattle.policy.specs.Nodes.{opOf, firstOf, secondOf}
+use Rattle.formulas.specs.Value.{operand, sizeOfOperand}
+use Rattle.formulas.specs.Parts.{comparedBy, joined}
+use Rattle.formulas.specs.declared.Holders.{Holders}
+use Rattle.planes.specs.Put.{withValue}
+use Rattle.planes.specs.declared.operand.Operand.{Operand}
+
+-- each bit of x is what f says of the number of its lane of word w
+pub record Word (f : ℕ → Bool) (w x : ℕ) : Type 0 where
+  pub each : (j : ℕ) → j < 64 → bitOf x j ≡ f (64 * w + j)
+
+-- the words of t are the bits of the lanes' numbers of word w: word k has the bits k
+pub record Planes (w : ℕ) (t : List ℕ) : Type 0 where
+  pub below : w < 4
+  pub each : (k : ℕ) → Word (λ v. bitOf v k) w (getD t k 0)
+
+-- x is what f says of the lanes whose planes are t
+abbrev pub Told : List ℕ → (ℕ → Bool) → ℕ → Type 0
+Told t f x = (w : ℕ) → Planes w t → Word f w x
+
+-- the number of an operand in the lane of v: its last bits are a field of v, the others those of one number
+unfoldable pub numberIn : Operand → ℕ → ℕ
+numberIn o v = o .number / 2 ^ o .bits * 2 ^ o .bits + v / 2 ^ o .shift % 2 ^ o .bits
+
+-- operand x by the tables of all operands
+unfoldable pub operandIn : List ℕ → List ℕ → List ℕ → List ℕ → ℕ → Operand
+operandIn values sizes shifts bits x = record { shift = getD shifts x 0; bits = getD bits x 0; number = getD values x 0; size = getD sizes x 0 }
+
+-- what a comparison of operands says in the lane of v
+unfoldable pub comparedIn : ℕ → Operand → Operand → ℕ → Bool
+comparedIn op x y v = comparedBy op (numberIn x v) (x .size) (numberIn y v) (y .size)
+
+-- what a node says in lane j of word w, by the tables of all operands and the words of the nodes before it
+unfoldable pub nodeIn : List ℕ → List ℕ → List ℕ → List ℕ → List ℕ → ℕ → ℕ → ℕ → Bool
+nodeIn values sizes shifts bits before node w j =
+    joined (map (λ x. bitOf x j) before) node
+    (comparedIn (opOf node) (operandIn values sizes shifts bits (firstOf node)) (operandIn values sizes shifts bits (secondOf node)) (64 * w + j))
+
+-- the tables give the number of each operand in each lane, with the lane's number put in, and the size of its list
+pub record Operands (c : Lists) (h : Holders) (at : ℕ) (values sizes shifts bits : List ℕ) : Type 0 where
+  pub number : (v x : ℕ) → v < 256 → x < 256 → operand c (withValue h at v) x ≡ numberIn (operandIn values sizes shifts bits x) v
+  pub size : (x : ℕ) → x < 256 → sizeOfOperand c x ≡ getD sizes x 0

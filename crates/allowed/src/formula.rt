@@ -3,6 +3,7 @@ ghost use mathlib.Core.Path.{_≡_};
 ghost use Rattle.lanes.specs.Lanes.{Lanes};
 ghost use Rattle.policy.specs.Nodes.{ofHolder};
 ghost use Rattle.policy.specs.Rules.{attrsOf, listsOf, policyOf};
+ghost use Rattle.lists.specs.Lists.{listed as listedOf};
 ghost use Rattle.allowed.specs.Allowed.{says as saysOf};
 ghost use Rattle.allowed.specs.Sweep.{withValue, swept};
 use formulas::Holders;
@@ -51,6 +52,20 @@ fn class_of(classes: Classes, at: u8) -> Class
         return classes.session;
     }
     classes.item
+}
+
+// The values in the lists of a class.
+pub(super) fn listed_values(class: Class) -> [u64; 4]
+    ensures { λ r. ⌜ Lanes (listedOf (attrsOf class)) r ⌝ }
+{
+    let mut set = lanes::none();
+    for v in 0..256 {
+        if listed(class, v as u64) {
+            let more = lanes::add(set, v);
+            set = more;
+        }
+    }
+    set
 }
 
 // The values of the holder at the place `at` of which formula f is true, the other holders being as they are.

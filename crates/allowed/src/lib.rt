@@ -18,6 +18,7 @@ ghost use Rattle.allowed.specs.Allowed.{
 
 mod formula;
 
+use formula::listed_values;
 use formula::says;
 use formula::sweep;
 use formulas::Holders;
@@ -96,6 +97,20 @@ fn user_value(users: Values, u: u8) -> u8
     }
     let values = users.values;
     byte_at(&values, u as usize)
+}
+
+// The values in the lists of sessions.
+pub fn session_values(rules: Rules) -> [u64; 4]
+    ensures { λ r. ⌜ Lanes (modelOf (policyOf rules) .sessionValue) r ⌝ }
+{
+    listed_values(rules.classes.session)
+}
+
+// The values in the lists of items.
+pub fn item_values(rules: Rules) -> [u64; 4]
+    ensures { λ r. ⌜ Lanes (modelOf (policyOf rules) .itemValue) r ⌝ }
+{
+    listed_values(rules.classes.item)
 }
 
 // Whether the formula lets user u open a session with value v.

@@ -3,7 +3,7 @@ ghost use mathlib.Core.Path.{_≡_};
 ghost use mathlib.Core.Bool.{true, false, not, _&&_, _||_};
 ghost use Prim.Native.Nat.{_≤_};
 ghost use lib.Dec.{eqb};
-ghost use Rattle.lanes.specs.Lanes.{added, bitOf, laneOf, Lanes, someBelow, firstFrom, countBelow, noLane, lowestOf, countOf};
+ghost use Rattle.lanes.specs.Lanes.{added, bitOf, laneOf, Lanes, someBelow, firstFrom, countBelow, noLane, lowestOf, highestOf, countOf};
 
 // No lane.
 pub fn none() -> [u64; 4]
@@ -116,6 +116,20 @@ pub fn lowest(x: [u64; 4]) -> usize
         return 128 + c;
     }
     192 + first_bit(x[3])
+}
+
+// The last lane that is set, and 256 where none is.
+pub fn highest(x: [u64; 4]) -> usize
+    ensures { λ r. ⌜ r ≡ highestOf x ⌝ }
+{
+    let mut v = 256;
+    while 0 < v {
+        v -= 1;
+        if has(x, v) {
+            return v;
+        }
+    }
+    256
 }
 
 // How many bits of a word are set.

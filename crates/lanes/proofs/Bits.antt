@@ -1,17 +1,17 @@
--- Laws of single bits of a word. In order: operations on two words, all ones and one bit, the first bit, how many bits.
+-- Laws of single bits of a word. In order: operations on two words, all ones and one bit, the first bit, how many bits, the last bit.
 use mathlib.Core.Path.{_≡_, refl, sym, ap, _∙_}
 use mathlib.Core.Bool.{Bool, true, false, not, _&&_, _||_, xor, cond}
-use Prim.Native.Nat.{ℕ, zero, suc, _+_, _*_, _/_, _%_, _^_, _<_, min, max}
-use native.Mathlib.Nat.{zero-div}
+use Prim.Native.Nat.{ℕ, zero, suc, _+_, _-_, _*_, _/_, _%_, _^_, _≤_, _<_, min, max}
+use native.Mathlib.Nat.{zero-div, div-eq-of-lt, le-div-iff-mul-le, div-lt-iff-lt-mul, lt-of-lt-of-le}
 use native.Mathlib.Numerals.{one-add, unary-clauses}
 use native.Mathlib.Omega.{arith}
 use borrow.Author.Tests.{eq-eqb, ne-eqb}
 use lib.Bits.{bitAnd, bitOr, bitXor, differ, and-shr, or-shr, xor-shr, and-step, or-step, xor-step}
-use lib.Count.{trailingZeros, under, trailing-le, ones, ones-step}
+use lib.Count.{trailingZeros, under, trailing-le, ones, ones-step, leadingZeros, leading-top}
 use lib.Dec.{eqb}
-use lib.Pow.{shr-shr}
-use Rattle.lanes.specs.Lanes.{bitOf, someBelow, firstFrom, countBelow}
-use Rattle.lanes.proofs.Laws.{some-none, some-none-of, first-is, count-ext, count-split}
+use lib.Pow.{shr-shr, pow-mono, pow-pos}
+use Rattle.lanes.specs.Lanes.{bitOf, someBelow, firstFrom, lastBelow, countBelow}
+use Rattle.lanes.proofs.Laws.{some-none, some-none-of, first-is, last-is, last-none, count-ext, count-split}
 
 two : (P : ℕ → Type 0) → P 0 → P 1 → (q : ℕ) → q < 2 → P q
 two P a b zero h = a
@@ -154,3 +154,24 @@ ones-count (suc k) n h =
     let s : countBelow (bitOf n) (suc k) ≡ countBelow (bitOf n) (1 + k) = ap (countBelow (bitOf n)) (sym (one-add k)) in
     let t : countBelow (λ i. bitOf n (1 + i)) k ≡ countBelow (bitOf (n / 2)) k = count-ext (λ i. bitOf n (1 + i)) (bitOf (n / 2)) k (λ i l. ap (bitOf n) (one-add i) ∙ bit-suc n i) in
     omega (arith, ones-step n, ones-count k (n / 2) (omega arith), one-bit n)
+
+-- the last bit is the one below the leading zeros
+pub leading-last : (k n : ℕ) → k ≤ 256 → 0 < n → n < 2 ^ k → k - 1 - leadingZeros k n ≡ lastBelow (bitOf n) k
+unfolding bitOf
+leading-last k n g p h =
+    let t = leading-top k n p h in
+    let j = t .0 in
+    let e : k - 1 - leadingZeros k n ≡ j = omega (arith, t .1) in
+    e ∙ last-is (bitOf n) k j (omega (arith, t .1))
+    (eq-eqb (n / 2 ^ j % 2) 1 (ap (λ (z : ℕ). z % 2) (top j n (t .2) (t .3))))
+    (λ v l m. ap (λ (z : ℕ). eqb (z % 2) 1) (div-eq-of-lt (lt-of-lt-of-le (t .3) (pow-mono l))))
+  where
+    top : (j n : ℕ) → 2 ^ j ≤ n → n < 2 ^ suc j → n / 2 ^ j ≡ 1
+    top j n a b =
+        let p : 2 ^ suc j ≡ 2 ^ j * 2 = simp unary-clauses in
+        let l : 1 ≤ n / 2 ^ j = le-div-iff-mul-le (pow-pos j) .1 (omega arith) in
+        let m : n / 2 ^ j < 2 = div-lt-iff-lt-mul (pow-pos j) .1 (omega arith) in
+        omega arith
+
+pub zero-last : (k : ℕ) → lastBelow (bitOf 0) k ≡ 256
+zero-last k = last-none (bitOf 0) k (λ v h. bit-zero v)

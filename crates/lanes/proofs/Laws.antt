@@ -1,17 +1,18 @@
--- Laws of sets of lanes, for callers. In order: lanes and operations on them, whether f holds of some number, no lane, the first lane, how many lanes.
+-- Laws of sets of lanes, for callers. In order: lanes and operations on them, whether f holds of some number, no lane, the first lane, the last, lanes gone
+-- through in rising order, how many lanes.
 -- Not here: bits of words (Bits), the four words of a set (Words).
 use mathlib.Core.Path.{_≡_, refl, sym, ap, ap₂, _∙_}
-use mathlib.Core.Bool.{Bool, true, false, not, _&&_, _||_, cond}
+use mathlib.Core.Bool.{Bool, true, false, not, _&&_, _||_, cond, and-true, and-false}
 use mathlib.Core.List.{List}
 use mathlib.Core.Logic.{_⊎_, inl, inr, ⊎-elim}
 use Prim.Native.Nat.{ℕ, zero, suc, _+_, _≤_, _<_}
 use native.Mathlib.Decide.{ℕ-discrete, decLt}
 use native.Mathlib.Nat.{eq-or-lt-of-le, le-of-suc-le-suc}
 use native.Mathlib.Omega.{arith}
-use borrow.Author.Tests.{not-true, not-false}
+use borrow.Author.Tests.{eq-eqb, ne-eqb, not-true, not-false}
 use lib.Dec.{eqb}
 use lib.ListN.{length}
-use Rattle.lanes.specs.Lanes.{laneOf, Lanes, someBelow, noLane, firstFrom, lowestOf, countBelow, countOf}
+use Rattle.lanes.specs.Lanes.{laneOf, Lanes, someBelow, noLane, firstFrom, lowestOf, lastBelow, highestOf, countBelow, countOf}
 
 -- the lanes of f are those of g
 pub lanes-as : (f g : ℕ → Bool) (x : List ℕ) → Lanes f x → ((v : ℕ) → v < 256 → f v ≡ g v) → Lanes g x
@@ -169,6 +170,104 @@ pub lowest-lanes : (f : ℕ → Bool) (x : List ℕ) → Lanes f x → lowestOf 
 lowest-lanes f x l =
     sym (lowest-is x (firstFrom f 0 256) (first-le f 0 256) (λ h. l .each (firstFrom f 0 256) h ∙ first-here f 0 256 h)
     (λ v h. l .each v (omega (arith, first-le f 0 256)) ∙ first-before f 0 256 v (omega arith) h))
+
+module _ (f : ℕ → Bool) where
+  -- f holds of the last
+  pub last-here : (n : ℕ) → n ≤ 256 → lastBelow f n < 256 → (lastBelow f n < n) × (f (lastBelow f n) ≡ true)
+  unfolding lastBelow
+  last-here zero g h = absurd (omega arith)
+  last-here (suc n) g h = go (f n) refl h (last-here n (omega arith))
+    where
+      go : (b : Bool) → f n ≡ b → cond b n (lastBelow f n) < 256 → (lastBelow f n < 256 → (lastBelow f n < n) × (f (lastBelow f n) ≡ true))
+          → (cond b n (lastBelow f n) < suc n) × (f (cond b n (lastBelow f n)) ≡ true)
+      go true e h ih = (omega arith, e)
+      go false e h ih = let t = ih h in (omega (arith, t .0), t .1)
+
+  -- and of none where there is no last
+  pub last-off : (n : ℕ) → n ≤ 256 → 256 ≤ lastBelow f n → (v : ℕ) → v < n → f v ≡ false
+  unfolding lastBelow
+  last-off zero g h v l = absurd (omega arith)
+  last-off (suc n) g h v l = go (f n) refl h (last-off n (omega arith))
+    where
+      go : (b : Bool) → f n ≡ b → 256 ≤ cond b n (lastBelow f n) → (256 ≤ lastBelow f n → (v : ℕ) → v < n → f v ≡ false) → f v ≡ false
+      go true e h ih = absurd (omega arith)
+      go false e h ih = ⊎-elim (λ z. ap f z ∙ e) (λ z. ih h v z) (eq-or-lt-of-le (le-of-suc-le-suc l))
+
+  -- and of none after it
+  pub last-after : (n : ℕ) → n ≤ 256 → (v : ℕ) → lastBelow f n < v → v < n → f v ≡ false
+  unfolding lastBelow
+  last-after zero g v h l = absurd (omega arith)
+  last-after (suc n) g v h l = go (f n) refl h (last-after n (omega arith) v)
+    where
+      go : (b : Bool) → f n ≡ b → cond b n (lastBelow f n) < v → (lastBelow f n < v → v < n → f v ≡ false) → f v ≡ false
+      go true e h ih = absurd (omega arith)
+      go false e h ih = ⊎-elim (λ z. ap f z ∙ e) (λ z. ih h z) (eq-or-lt-of-le (le-of-suc-le-suc l))
+
+  -- that is what makes it the last
+  pub last-is : (n r : ℕ) → r < n → f r ≡ true → ((v : ℕ) → r < v → v < n → f v ≡ false) → r ≡ lastBelow f n
+  unfolding lastBelow
+  last-is zero r h here after = absurd (omega arith)
+  last-is (suc n) r h here after = go (ℕ-discrete r n) (last-is n r)
+    where
+      go : Dec (r ≡ n) → (r < n → f r ≡ true → ((v : ℕ) → r < v → v < n → f v ≡ false) → r ≡ lastBelow f n) → r ≡ cond (f n) n (lastBelow f n)
+      go (yes e) ih = let t : f n ≡ true = ap f (sym e) ∙ here in rw t e
+      go (no e) ih = let t : f n ≡ false = after n (omega arith) (omega arith) in rw t (ih (omega arith) here (λ v p q. after v p (omega arith)))
+
+  pub last-none : (n : ℕ) → ((v : ℕ) → v < n → f v ≡ false) → lastBelow f n ≡ 256
+  unfolding lastBelow
+  last-none zero h = refl
+  last-none (suc n) h = rw (h n (omega arith)) (last-none n (λ v l. h v (omega arith)))
+
+pub last-ext : (f g : ℕ → Bool) (n : ℕ) → ((i : ℕ) → i < n → f i ≡ g i) → lastBelow f n ≡ lastBelow g n
+unfolding lastBelow
+last-ext f g zero h = refl
+last-ext f g (suc n) h = rw (last-ext f g n (λ i l. h i (omega arith)), h n (omega arith)) refl
+
+-- the last lane is the last number that f holds of
+pub highest-lanes : (f : ℕ → Bool) (x : List ℕ) → Lanes f x → highestOf x ≡ lastBelow f 256
+unfolding highestOf
+highest-lanes f x l = last-ext (laneOf x) f 256 (l .each)
+
+pub highest-last : (x : List ℕ) → highestOf x ≡ lastBelow (laneOf x) 256
+unfolding highestOf
+highest-last x = refl
+
+-- `rest` is what x has from y on, and y is its first lane
+abbrev pub Rest : List ℕ → List ℕ → ℕ → Type 0
+Rest x rest y = (y ≡ lowestOf rest) × ((v : ℕ) → y ≤ v → v < 256 → laneOf rest v ≡ laneOf x v)
+
+module _ (x : List ℕ) where
+  pub rest-all : (y : ℕ) → y ≡ lowestOf x → Rest x x y
+  rest-all y e = (e, λ v h l. refl)
+
+  -- x has no lane before its first
+  pub rest-before : (y : ℕ) → y ≡ lowestOf x → (v : ℕ) → v < y → laneOf x v ≡ false
+  rest-before y e v h = lowest-before x v (omega arith)
+
+  -- from one lane to the next
+  module _ (rest more : List ℕ) (y z : ℕ) (h : y < 256) (R : Rest x rest y) (W : Lanes (λ (w : ℕ). laneOf rest w && not (eqb w y)) more) (e : z ≡ lowestOf more) where
+    same : (v : ℕ) → y < v → v < 256 → laneOf more v ≡ laneOf x v
+    same v l g = W .each v g ∙ rw (ne-eqb v y (λ d. omega arith)) (and-true (laneOf rest v)) ∙ R .1 v (omega arith) g
+
+    gone : (v : ℕ) → v ≤ y → laneOf more v ≡ false
+    gone v l =
+        elim (ℕ-discrete v y) [
+          | yes d ↦ W .each v (omega arith) ∙ rw (eq-eqb v y d) (and-false (laneOf rest v))
+          | no d ↦ W .each v (omega arith) ∙ ap (λ (b : Bool). b && not (eqb v y)) (lowest-before rest v (omega (arith, R .0)))
+        ]
+
+    pub rest-on : y < z
+    rest-on = ⊎-elim (λ l. l) (λ l. absurd (clash (sym (lowest-here more (omega (arith, e))) ∙ ap (laneOf more) (sym e) ∙ gone z l))) (lt-or-ge y z)
+      where
+        clash : true ≡ false → ⊥
+        clash t = let w : _≡_ {A = ℕ} 0 1 = cc in omega arith
+
+    pub rest-next : Rest x more z
+    rest-next = (e, λ v l g. same v (omega (arith, rest-on)) g)
+
+    -- x has no lane between them
+    pub rest-between : (v : ℕ) → y < v → v < z → laneOf x v ≡ false
+    rest-between v l g = sym (same v l (omega (arith, e, lowest-le more))) ∙ lowest-before more v (omega arith)
 
 module _ (f : ℕ → Bool) where
   pub count-below-le : (n : ℕ) → countBelow f n ≤ n

@@ -98,6 +98,20 @@ fn user_value(users: Values, u: u8) -> u8
     byte_at(&values, u as usize)
 }
 
+// The values in the lists of sessions.
+pub fn session_values(rules: Rules) -> [u64; 4]
+    ensures { λ r. ⌜ Lanes (modelOf (policyOf rules) .sessionValue) r ⌝ }
+{
+    planes::values_of(rules.classes.session)
+}
+
+// The values in the lists of items.
+pub fn item_values(rules: Rules) -> [u64; 4]
+    ensures { λ r. ⌜ Lanes (modelOf (policyOf rules) .itemValue) r ⌝ }
+{
+    planes::values_of(rules.classes.item)
+}
+
 // Whether the formula lets user u open a session with value v.
 pub fn may_open(rules: Rules, u: u8, v: u8) -> bool
     ensures { λ r. ⌜ r ≡ modelOf (policyOf rules) .mayOpen u v ⌝ }

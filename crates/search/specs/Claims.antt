@@ -21,7 +21,7 @@ Change m u x via y = changesTo m u x y ≡ true
 
 -- a link between item values: by a helper's session value
 abbrev pub Modify : Model → (ℕ → Bool) → ℕ → ℕ → ℕ → Type 0
-Modify m helper o v n = (v < 256) × (helper v ≡ true) × (modifiesTo m v o n ≡ true)
+Modify m helper o v n = (v < 256) × (helper v ≡ true) × (m .sessionValue v ≡ true) × (modifiesTo m v o n ≡ true)
 
 -- a starting item, or one that is made
 abbrev pub Begun : Model → (ℕ → Bool) → List ℕ → ℕ → ℕ → Type 0

@@ -39,12 +39,16 @@ pushed q y from via =
       len = q .len + 1;
     }
 
+-- whether n is one of the values asked for, and not found yet
+unfoldable pub unmet : (ℕ → Bool) → Found → ℕ → Bool
+unmet within q n = within n && not (laneOf (q .seen) n)
+
 -- each of the numbers below n that f holds of and that q has not seen
 unfoldable pub spreadTo : (ℕ → Bool) → Found → ℕ → ℕ → ℕ → Found
 spreadTo f q from via zero = q
 spreadTo f q from via (suc n) =
     let r = spreadTo f q from via n in
-    cond (f n && not (laneOf (q .seen) n)) (pushed r n from via) r
+    cond (unmet f q n) (pushed r n from via) r
 
 -- all of them
 unfoldable pub spread : (ℕ → Bool) → Found → ℕ → ℕ → Found

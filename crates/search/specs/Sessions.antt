@@ -1,25 +1,26 @@
 -- Searches of session values: what a user's sessions can have, and what one session can have by its own changes.
 -- Assumes nothing.
-use mathlib.Core.Bool.{Bool, cond}
+use mathlib.Core.Bool.{Bool, _&&_, cond}
 use Prim.Native.Nat.{ℕ, zero, suc, _+_}
 use lib.Dec.{ltb}
 use lib.ListN.{getD}
+use Rattle.lanes.specs.Lanes.{someBelow}
 use Rattle.runs.specs.Model.{Model}
 use Rattle.runs.specs.Edge.{opensWith, changesTo}
-use Rattle.search.specs.Queue.{nothing, pushed, spread}
+use Rattle.search.specs.Queue.{nothing, pushed, unmet, spread}
 use Rattle.search.specs.declared.queue.Found.{Found}
 
--- from the places below i, as far as there are so many
-unfoldable pub growTo : (ℕ → ℕ → Bool) → Found → ℕ → Found
-growTo edge q zero = q
-growTo edge q (suc i) =
-    let r = growTo edge q i in
-    cond (ltb i (r .len)) (spread (edge (getD (r .order) i 0)) r (i + 1) 0) r
+-- from the places below i, as far as there are so many, while some value of the lists isn't found yet
+unfoldable pub growTo : (ℕ → Bool) → (ℕ → ℕ → Bool) → Found → ℕ → Found
+growTo within edge q zero = q
+growTo within edge q (suc i) =
+    let r = growTo within edge q i in
+    cond (ltb i (r .len) && someBelow (unmet within r) 256) (spread (edge (getD (r .order) i 0)) r (i + 1) 0) r
 
 -- sessions of user u
 unfoldable pub sessionsFound : Model → ℕ → Found
-sessionsFound m u = growTo (changesTo m u) (spread (opensWith m u) nothing 0 0) 256
+sessionsFound m u = growTo (m .sessionValue) (changesTo m u) (spread (opensWith m u) nothing 0 0) 256
 
 -- one session of user u that has value held
 unfoldable pub ownFound : Model → ℕ → ℕ → Found
-ownFound m u held = growTo (changesTo m u) (pushed nothing held 0 0) 256
+ownFound m u held = growTo (m .sessionValue) (changesTo m u) (pushed nothing held 0 0) 256

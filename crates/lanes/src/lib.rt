@@ -3,7 +3,7 @@ ghost use mathlib.Core.Path.{_≡_};
 ghost use mathlib.Core.Bool.{true, false, not, _&&_, _||_};
 ghost use Prim.Native.Nat.{_≤_};
 ghost use lib.Dec.{eqb};
-ghost use Rattle.lanes.specs.Lanes.{added, bitOf, laneOf, Lanes, someBelow, firstFrom, countBelow, noLane, lowestOf, highestOf, countOf};
+ghost use Rattle.lanes.specs.Lanes.{added, bitOf, laneOf, Lanes, someBelow, firstFrom, countBelow, noLane, lowestOf, lastBelow, highestOf, countOf};
 
 // No lane.
 pub fn none() -> [u64; 4]
@@ -77,6 +77,17 @@ pub fn add(x: [u64; 4], v: usize) -> [u64; 4]
     r
 }
 
+// The set without lane v: from 256 on there is none to take away.
+pub fn without(x: [u64; 4], v: usize) -> [u64; 4]
+    ensures { λ r. ⌜ Lanes (λ w. (laneOf x w && not (eqb w v))) r ⌝ }
+{
+    let mut r = x;
+    if v < 256 {
+        r[v / 64] = x[v / 64] & ((1 << (v % 64)) ^ 0xFFFF_FFFF_FFFF_FFFF);
+    }
+    r
+}
+
 // Whether no bit of a word is set.
 fn no_bit(w: u64) -> bool
     ensures { λ r. ⌜ r ≡ not (someBelow (bitOf w) 64) ⌝ }
@@ -118,18 +129,33 @@ pub fn lowest(x: [u64; 4]) -> usize
     192 + first_bit(x[3])
 }
 
+// The last bit of a word that is set, and 256 where none is.
+fn last_bit(w: u64) -> usize
+    ensures { λ r. ⌜ r ≡ lastBelow (bitOf w) 64 ⌝ }
+{
+    if w == 0 {
+        return 256;
+    }
+    63 - u64::leading_zeros(w) as usize
+}
+
 // The last lane that is set, and 256 where none is.
 pub fn highest(x: [u64; 4]) -> usize
     ensures { λ r. ⌜ r ≡ highestOf x ⌝ }
 {
-    let mut v = 256;
-    while 0 < v {
-        v -= 1;
-        if has(x, v) {
-            return v;
-        }
+    let d = last_bit(x[3]);
+    if d < 64 {
+        return 192 + d;
     }
-    256
+    let c = last_bit(x[2]);
+    if c < 64 {
+        return 128 + c;
+    }
+    let b = last_bit(x[1]);
+    if b < 64 {
+        return 64 + b;
+    }
+    last_bit(x[0])
 }
 
 // How many bits of a word are set.

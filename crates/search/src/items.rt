@@ -31,7 +31,15 @@ fn able(rules: Rules, made: bool, o: u8, n: u8) -> [u64; 4]
 }
 
 // By item values: those not found yet are asked for one after another.
-fn asked(rules: Rules, ready: [u64; 4], within: [u64; 4], made: bool, o: u8, q: Found, from: u16) -> Found
+fn asked(
+    rules: Rules,
+    ready: [u64; 4],
+    within: [u64; 4],
+    made: bool,
+    o: u8,
+    q: Found,
+    from: u16,
+) -> Found
     ensures { λ r. ⌜ (Lanes (modelOf (policyOf rules) .itemValue) within → r ≡ askedOf (modelOf (policyOf rules)) (laneOf ready) made o q from 256) ⌝ }
 {
     let seen = q.seen;
@@ -129,7 +137,12 @@ pub fn one_item(rules: Rules, helpers: [u64; 4], j: u8, held: u8) -> Found
 {
     let ready = ready_of(rules, helpers);
     let within = item_values(rules);
-    grow(rules, ready, within, push(nothing(), held, 0, 256 + j as u16))
+    grow(
+        rules,
+        ready,
+        within,
+        push(nothing(), held, 0, 256 + j as u16),
+    )
 }
 
 // The values that any item can have: a starting one, or one that is made.

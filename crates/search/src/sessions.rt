@@ -37,7 +37,12 @@ pub fn user_values(rules: Rules, u: u8) -> Found
     ensures { λ r. ⌜ r ≡ sessionsFound (modelOf (policyOf rules)) u ⌝ }
 {
     let within = session_values(rules);
-    grow(rules, u, within, spread(nothing(), opened_with(rules, u), 0, 0))
+    grow(
+        rules,
+        u,
+        within,
+        spread(nothing(), opened_with(rules, u), 0, 0),
+    )
 }
 
 // The values that one session of user u with value held can have by its own changes.

@@ -7,8 +7,7 @@ use Prim.Native.Nat.{ℕ, zero, suc, _+_, _-_, _<_}
 use native.Mathlib.Omega.{arith}
 use lib.Dec.{ltb, leb}
 use Rattle.lanes.specs.Lanes.{someBelow, countBelow}
-use Rattle.lanes.proofs.Laws.{some-ext, count-ext}
-use Rattle.lanes.proofs.Last.{last-ext}
+use Rattle.lanes.proofs.Laws.{some-ext, last-ext, count-ext}
 use Rattle.runs.specs.Model.{Model}
 use Rattle.runs.specs.Edge.{modifiesTo}
 use Rattle.search.specs.Queue.{pushed, unmet, spread}

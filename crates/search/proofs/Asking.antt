@@ -2,15 +2,16 @@
 -- In order: who may make or change a value; all that sessions may is brought in.
 use mathlib.Core.Path.{_≡_, refl, sym, _∙_}
 use mathlib.Core.Bool.{Bool, true, false, _&&_}
+use mathlib.Core.Logic.{⊎-elim}
 use Prim.Native.Nat.{ℕ, _<_}
 use native.Mathlib.Omega.{arith}
 use borrow.Author.Tests.{ltb-true, lt-ltb}
 use lib.Dec.{ltb}
 use Rattle.lanes.specs.Lanes.{laneOf, lastBelow}
-use Rattle.lanes.proofs.Last.{last-here, last-some}
+use Rattle.lanes.proofs.Laws.{lt-or-ge, last-here, last-off}
 use Rattle.runs.specs.Model.{Model}
 use Rattle.runs.specs.Edge.{makesWith, modifiesTo}
-use Rattle.verdict.proofs.Below.{both, both-of}
+use Rattle.verdict.proofs.Below.{not-both, both, both-of}
 use Rattle.verdict.proofs.Decided.{makes-with, modifies-to}
 use Rattle.search.specs.Queue.{unmet}
 use Rattle.search.specs.Items.{able, lastAble, asked}
@@ -37,12 +38,14 @@ module _ (m : Model) (ready : ℕ → Bool) (made : Bool) (o : ℕ) where
   last-may n h =
       let f : ℕ → Bool = λ v. ready v && able m made o n v in
       let k : lastBelow f 256 < 256 = rw (last-able-is m ready made o n) at h in
-      let (a, b) = both-of (ready (lastBelow f 256)) (able m made o n (lastBelow f 256)) (last-here f 256 k) in
+      let (a, b) = both-of (ready (lastBelow f 256)) (able m made o n (lastBelow f 256)) (last-here f 256 (omega arith) k .1) in
       rw (last-able-is m ready made o n) (k, a, b)
 
   may-last : (n v : ℕ) → May n v → last n < 256
   may-last n v (h, a, b) =
-      rw (last-able-is m ready made o n) (last-some (λ v. ready v && able m made o n v) 256 v (omega arith) h (both (ready v) (able m made o n v) a b))
+      let f : ℕ → Bool = λ v. ready v && able m made o n v in
+      rw (last-able-is m ready made o n)
+      (⊎-elim (λ l. l) (λ g. not-both (last-off f 256 (omega arith) g v h) (both (ready v) (able m made o n v) a b)) (lt-or-ge (lastBelow f 256) 256))
 
   -- by item values: all that sessions may, where what they may comes to q as a start or a link
   pub asked-brings : (S : ℕ → ℕ → Type 0) (E : ℕ → ℕ → ℕ → Type 0) (q : Found) (from : ℕ) → Good S E q → ((n v : ℕ) → May n v → Comes S E q from v n)

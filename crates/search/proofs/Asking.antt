@@ -1,7 +1,7 @@
 -- By item values: those that aren't found yet are asked for one after another. Starts that are made and links are brought in alike.
 -- In order: who may make or change a value; all that sessions may is brought in.
-use mathlib.Core.Path.{_≡_, refl, sym, _∙_}
-use mathlib.Core.Bool.{Bool, true, false, _&&_}
+use mathlib.Core.Path.{_≡_, sym, _∙_}
+use mathlib.Core.Bool.{Bool, true, false, _&&_, and-true}
 use mathlib.Core.Logic.{⊎-elim}
 use Prim.Native.Nat.{ℕ, _<_}
 use native.Mathlib.Omega.{arith}
@@ -10,7 +10,6 @@ use lib.Dec.{ltb}
 use Rattle.lanes.specs.Lanes.{laneOf, lastBelow}
 use Rattle.lanes.proofs.Laws.{lt-or-ge, last-here, last-off}
 use Rattle.runs.specs.Model.{Model}
-use Rattle.runs.specs.Edge.{makesWith, modifiesTo}
 use Rattle.verdict.proofs.Below.{not-both, both, both-of}
 use Rattle.verdict.proofs.Decided.{makes-with, modifies-to}
 use Rattle.search.specs.Queue.{unmet}
@@ -23,15 +22,15 @@ use Rattle.search.proofs.Spreading.{Brings, each-brings}
 
 -- what is made or changed to is in the lists
 able-item : (m : Model) (made : Bool) (o n v : ℕ) → able m made o n v ≡ true → m .itemValue n ≡ true
-able-item m true o n v e = makes-with m v n .0 (both-of (m .sessionValue v) (makesWith m v n) (sym (able-make m o n v) ∙ e) .1) .0
-able-item m false o n v e = modifies-to m v o n .0 (both-of (m .sessionValue v) (modifiesTo m v o n) (sym (able-modify m o n v) ∙ e) .1) .0
+able-item m true o n v e = makes-with m v n .0 (able-make m o n v .0 e .1) .0
+able-item m false o n v e = modifies-to m v o n .0 (able-modify m o n v .0 e .1) .0
 
 module _ (m : Model) (ready : ℕ → Bool) (made : Bool) (o : ℕ) where
   -- a session with value v can be had, and may make an item with value n or change one from o to n
   abbrev pub May : ℕ → ℕ → Type 0
   May n v = (v < 256) × (ready v ≡ true) × (able m made o n v ≡ true)
 
-  abbrev pub last : ℕ → ℕ
+  abbrev last : ℕ → ℕ
   last n = lastAble m ready made o n
 
   last-may : (n : ℕ) → last n < 256 → May n (last n)
@@ -61,9 +60,5 @@ module _ (m : Model) (ready : ℕ → Bool) (made : Bool) (o : ℕ) where
 
       old : (n : ℕ) → n < 256 → unmet (m .itemValue) q n && ltb (last n) 256 ≡ false → (v : ℕ) × May n v → laneOf (q .seen) n ≡ true
       old n h e (v, p) =
-          let a : unmet (m .itemValue) q n ≡ false = and-left (unmet (m .itemValue) q n) (rw (lt-ltb (last n) 256 (may-last n v p)) at e) in
-          unmet-known (m .itemValue) q n a (able-item m made o n v (p .2))
-        where
-          and-left : (b : Bool) → b && true ≡ false → b ≡ false
-          and-left true e = e
-          and-left false e = refl
+          let c : unmet (m .itemValue) q n && true ≡ false = rw (lt-ltb (last n) 256 (may-last n v p)) at e in
+          unmet-known (m .itemValue) q n (sym (and-true (unmet (m .itemValue) q n)) ∙ c) (able-item m made o n v (p .2))

@@ -1,6 +1,6 @@
 -- Searches of items: each place is worked off from the narrower side. In order: by session values; from either side; all places; the roots that
 -- stand at the start; those and the ones that are made.
-use mathlib.Core.Path.{_≡_, refl, sym, _∙_}
+use mathlib.Core.Path.{_≡_, refl}
 use mathlib.Core.Bool.{Bool, true, false, not, _&&_}
 use mathlib.Core.List.{List}
 use mathlib.Core.Logic.{_⊎_, inl, inr}
@@ -13,14 +13,14 @@ use lib.ListN.{length, getD}
 use Rattle.lanes.specs.Lanes.{laneOf, someBelow, countBelow}
 use Rattle.runs.specs.Model.{Model}
 use Rattle.runs.specs.Edge.{makesWith, modifiesTo}
-use Rattle.verdict.proofs.Below.{both, both-of}
+use Rattle.verdict.proofs.Below.{both-of}
 use Rattle.verdict.proofs.Decided.{modifies-to}
 use Rattle.search.specs.Queue.{nothing, pushed, unmet, spread}
 use Rattle.search.specs.Items.{asked, offered, widened, growItems, readyOf, startRoots}
 use Rattle.search.specs.Searched.{valueAt, Good, Searched}
 use Rattle.search.specs.Claims.{Modify, Begun}
 use Rattle.search.specs.declared.queue.Found.{Found}
-use Rattle.search.proofs.Turns.{chosen, all-met, able-make, able-modify, ready-of, of-ready, offered-none, offered-turn, widened-is, grow-items-none, grow-items-turn, start-none, start-turn}
+use Rattle.search.proofs.Turns.{chosen, all-met, able-make, able-modify, ready-is, offered-none, offered-turn, widened-is, grow-items-none, grow-items-turn, start-none, start-turn}
 use Rattle.search.proofs.Pushing.{start, next, nothing-good}
 use Rattle.search.proofs.Spreading.{Brings, brings-none, brings-stay, brings-push, brings-then, spread-brings}
 use Rattle.search.proofs.Asking.{May, asked-brings}
@@ -31,7 +31,7 @@ module _ (m : Model) (helper : ℕ → Bool) (S : ℕ → ℕ → Type 0) where
   ready = readyOf m helper
 
   modify : (o v n : ℕ) → v < 256 → ready v ≡ true → modifiesTo m v o n ≡ true → Modify m helper o v n
-  modify o v n h e t = let (a, b) = ready-of m helper v e in (h, a, b, t)
+  modify o v n h e t = let (a, b) = ready-is m helper v .0 e in (h, a, b, t)
 
   modify-item : (o v n : ℕ) → Modify m helper o v n → m .itemValue n ≡ true
   modify-item o v n (h, a, b, t) = modifies-to m v o n .0 t .0
@@ -86,7 +86,7 @@ module _ (m : Model) (helper : ℕ → Bool) (S : ℕ → ℕ → Type 0) where
 
     wide-offered : Wide (offered m ready q i 256)
     wide-offered =
-        brings-stay S (Modify m helper) q _ _ _ (offered-brings 256 (omega arith)) (λ v l (w, (a, b, c, t)). inl (w, a, omega arith, of-ready m helper w b c, t))
+        brings-stay S (Modify m helper) q _ _ _ (offered-brings 256 (omega arith)) (λ v l (w, (a, b, c, t)). inl (w, a, omega arith, ready-is m helper w .1 (b, c), t))
 
     wide-asked : Wide (asked m ready false (valueAt q i) q (i + 1) 256)
     wide-asked =
@@ -94,11 +94,10 @@ module _ (m : Model) (helper : ℕ → Bool) (S : ℕ → ℕ → Type 0) where
         (λ v l z. inl (z .0, modify-may v (z .0) (z .1)))
       where
         may-modify : (n v : ℕ) → May m ready false (valueAt q i) n v → Modify m helper (valueAt q i) v n
-        may-modify n v (a, b, c) =
-            modify (valueAt q i) v n a b (both-of (m .sessionValue v) (modifiesTo m v (valueAt q i) n) (sym (able-modify m (valueAt q i) n v) ∙ c) .1)
+        may-modify n v (a, b, c) = modify (valueAt q i) v n a b (able-modify m (valueAt q i) n v .0 c .1)
 
         modify-may : (n v : ℕ) → Modify m helper (valueAt q i) v n → May m ready false (valueAt q i) n v
-        modify-may n v (a, b, c, t) = (a, of-ready m helper v b c, able-modify m (valueAt q i) n v ∙ both (m .sessionValue v) (modifiesTo m v (valueAt q i) n) c t)
+        modify-may n v (a, b, c, t) = (a, ready-is m helper v .1 (b, c), able-modify m (valueAt q i) n v .1 (c, t))
 
     widened-brings : Wide (widened m ready q i)
     widened-brings =
@@ -155,9 +154,9 @@ begun m helper values byte E =
   where
     may-make : (n v : ℕ) → May m (readyOf m helper) true 0 n v → (v < 256) × (helper v ≡ true) × (m .sessionValue v ≡ true) × (makesWith m v n ≡ true)
     may-make n v (a, b, c) =
-        let (d, e) = ready-of m helper v b in
-        (a, d, e, both-of (m .sessionValue v) (makesWith m v n) (sym (able-make m 0 n v) ∙ c) .1)
+        let (d, e) = ready-is m helper v .0 b in
+        (a, d, e, able-make m 0 n v .0 c .1)
 
     which : (v via : ℕ) → Begun m helper values via v → ((j : ℕ) × (j < length values) × (v ≡ getD values j 0)) ⊎ ((w : ℕ) × May m (readyOf m helper) true 0 v w)
     which v via (inl (j, l, e, z)) = inl (j, l, z)
-    which v via (inr (l, a, b, c)) = inr (via, (l, of-ready m helper via a b, able-make m 0 v via ∙ both (m .sessionValue via) (makesWith m via v) b c))
+    which v via (inr (l, a, b, c)) = inr (via, (l, ready-is m helper via .1 (a, b), able-make m 0 v via .1 (b, c)))

@@ -3,6 +3,7 @@
 use mathlib.Core.Path.{_≡_, refl, sym, ap, _∙_}
 use mathlib.Core.Bool.{Bool, true, false, not, _&&_, _||_, cond, or-false}
 use mathlib.Core.List.{List}
+use mathlib.Core.Logic.{_↔_}
 use Prim.Native.Nat.{ℕ, zero, suc, _+_, _-_, _/_, _%_, _<_}
 use native.Mathlib.Decide.{ℕ-discrete}
 use native.Mathlib.Omega.{arith}
@@ -190,22 +191,18 @@ unfolding ownFound
 own-is m u held = refl
 
 -- a session with value v may make an item with value n
-pub able-make : (m : Model) (o n v : ℕ) → able m true o n v ≡ m .sessionValue v && makesWith m v n
+pub able-make : (m : Model) (o n v : ℕ) → (able m true o n v ≡ true) ↔ ((m .sessionValue v ≡ true) × (makesWith m v n ≡ true))
 unfolding able
-able-make m o n v = refl
+able-make m o n v = (both-of (m .sessionValue v) (makesWith m v n), λ h. both (m .sessionValue v) (makesWith m v n) (h .0) (h .1))
 
 -- or change one from o to n
-pub able-modify : (m : Model) (o n v : ℕ) → able m false o n v ≡ m .sessionValue v && modifiesTo m v o n
+pub able-modify : (m : Model) (o n v : ℕ) → (able m false o n v ≡ true) ↔ ((m .sessionValue v ≡ true) × (modifiesTo m v o n ≡ true))
 unfolding able
-able-modify m o n v = refl
+able-modify m o n v = (both-of (m .sessionValue v) (modifiesTo m v o n), λ h. both (m .sessionValue v) (modifiesTo m v o n) (h .0) (h .1))
 
-pub ready-of : (m : Model) (helper : ℕ → Bool) (v : ℕ) → readyOf m helper v ≡ true → (helper v ≡ true) × (m .sessionValue v ≡ true)
+pub ready-is : (m : Model) (helper : ℕ → Bool) (v : ℕ) → (readyOf m helper v ≡ true) ↔ ((helper v ≡ true) × (m .sessionValue v ≡ true))
 unfolding readyOf
-ready-of m helper v e = both-of (helper v) (m .sessionValue v) e
-
-pub of-ready : (m : Model) (helper : ℕ → Bool) (v : ℕ) → helper v ≡ true → m .sessionValue v ≡ true → readyOf m helper v ≡ true
-unfolding readyOf
-of-ready m helper v a b = both (helper v) (m .sessionValue v) a b
+ready-is m helper v = (both-of (helper v) (m .sessionValue v), λ h. both (helper v) (m .sessionValue v) (h .0) (h .1))
 
 pub ready-ext : (m : Model) (f g : ℕ → Bool) (v : ℕ) → f v ≡ g v → readyOf m f v ≡ readyOf m g v
 unfolding readyOf

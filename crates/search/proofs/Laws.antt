@@ -1,7 +1,7 @@
--- Laws of searches as the program makes them. In order: depths, one more value, the values of a row; from one place after another, of sessions; the
--- roots of items, and from one place after another, of items.
+-- Laws of searches as the program makes them. In order: depths, one more value, turns of loops; values not found yet, the values of a row; from one
+-- place after another, of sessions; the roots of items, and of items what is asked by item values and by session values, from one place after another.
 use mathlib.Core.Path.{_≡_, refl, sym, ap, _∙_}
-use mathlib.Core.Bool.{Bool, false, not, _&&_, cond}
+use mathlib.Core.Bool.{Bool, true, false, not, _&&_, cond}
 use mathlib.Core.List.{List}
 use Prim.Native.Nat.{ℕ, zero, suc, _+_, _-_, _%_, _≤_, _<_}
 use native.Mathlib.Numerals.{add-one}
@@ -9,13 +9,13 @@ use native.Mathlib.Omega.{arith}
 use borrow.Author.Tests.{le-leb, lt-leb, eq-eqb, ne-eqb}
 use lib.Dec.{ltb}
 use lib.ListN.{getD, set, length}
-use Rattle.lanes.specs.Lanes.{laneOf, added, Lanes, lowestOf}
-use Rattle.lanes.proofs.Laws.{lanes-as, lowest-lanes}
+use Rattle.lanes.specs.Lanes.{laneOf, added, Lanes, someBelow, noLane, highestOf, countBelow}
+use Rattle.lanes.proofs.Laws.{Rest, lowest-here, lanes-as, some-ext, none-lanes, last-ext, highest-lanes, count-ext}
 use Rattle.runs.specs.Model.{Model}
 use Rattle.runs.specs.Edge.{opensWith, changesTo, makesWith, modifiesTo}
-use Rattle.search.specs.Queue.{nothing, depthAfter, pushed, spreadTo, spread}
+use Rattle.search.specs.Queue.{nothing, depthAfter, pushed, unmet, spreadTo, spread}
 use Rattle.search.specs.Sessions.{growTo, sessionsFound, ownFound}
-use Rattle.search.specs.Items.{maker, madeRoots, widenTo, growItems, oneFound, startRoots, anyFound}
+use Rattle.search.specs.Items.{able, lastAble, asked, offered, widened, growItems, readyOf, oneFound, startRoots, anyFound}
 use Rattle.search.specs.declared.queue.Found.{Found}
 
 module _ (q : Found) (from : ℕ) where
@@ -56,35 +56,72 @@ turn : (X : ℕ → Found) (test : Found → Bool) (go : Found → Found) (n : �
 turn X test go n e r b i t =
     rw add-one (sym (e ∙ sym (ap (λ (x : Found). cond (test x) (go x) x) i) ∙ ap (λ (u : Bool). cond u (go r) r) t))
 
+-- turns that change nothing, from y to z
+skip : (X : ℕ → Found) (y z : ℕ) → y ≤ z → ((v : ℕ) → y ≤ v → v < z → X (suc v) ≡ X v) → X y ≡ X z
+skip X y z h g = let e : y + (z - y) ≡ z = omega arith in far (z - y) (omega arith) ∙ ap X e
+  where
+    far : (k : ℕ) → y + k ≤ z → X y ≡ X (y + k)
+    far zero l = let e : y ≡ y + 0 = omega arith in ap X e
+    far (suc k) l = let e : suc (y + k) ≡ y + suc k = omega arith in far k (omega arith) ∙ sym (g (y + k) (omega arith) (omega arith)) ∙ ap X e
+
+-- the lane that is gone to is one of the set
+pub rest-here : (x rest : List ℕ) (y : ℕ) → y < 256 → Rest x rest y → laneOf x y ≡ true
+rest-here x rest y h R = sym (R .1 y (omega arith) h) ∙ ap (laneOf rest) (R .0) ∙ lowest-here rest (omega (arith, R .0))
+
+-- values not found yet
+module _ (f : ℕ → Bool) (q : Found) where
+  pub unmet-is : (n : ℕ) → unmet f q n ≡ f n && not (laneOf (q .seen) n)
+  unfolding unmet
+  unmet-is n = refl
+
+  module _ (within fresh : List ℕ) (W : Lanes f within) (F : Lanes (λ (v : ℕ). laneOf within v && not (laneOf (q .seen) v)) fresh) where
+    pub unmet-lanes : Lanes (unmet f q) fresh
+    unfolding unmet
+    unmet-lanes = lanes-as _ _ fresh F (λ v h. ap (λ (b : Bool). b && not (laneOf (q .seen) v)) (W .each v h))
+
+    pub unmet-none : noLane fresh ≡ not (someBelow (unmet f q) 256)
+    unmet-none = none-lanes (unmet f q) fresh unmet-lanes
+
+    -- some value isn't found yet, by a test of the lanes
+    pub unmet-some : (b t : Bool) → b ≡ noLane fresh → not b ≡ t → someBelow (unmet f q) 256 ≡ t
+    unmet-some b t e h = sym (twice (someBelow (unmet f q) 256)) ∙ ap not (sym (e ∙ unmet-none)) ∙ h
+      where
+        twice : (s : Bool) → not (not s) ≡ s
+        twice true = refl
+        twice false = refl
+
+pub unmet-ext : (f g : ℕ → Bool) (q : Found) (n : ℕ) → f n ≡ g n → unmet f q n ≡ unmet g q n
+unfolding unmet
+unmet-ext f g q n e = rw e refl
+
 -- the values of a row that are new
 module _ (q : Found) (from via : ℕ) where
   module _ (f : ℕ → Bool) where
-    pub spread-start : q ≡ spreadTo f q from via 0
+    still : (v : ℕ) → unmet f q v ≡ false → spreadTo f q from via (suc v) ≡ spreadTo f q from via v
     unfolding spreadTo
-    spread-start = refl
+    still v e = rw e refl
 
-    pub spread-turn : (n : ℕ) (r : Found) (b : Bool) → r ≡ spreadTo f q from via n → f n && not (laneOf (q .seen) n) ≡ b → cond b (pushed r n from via) r ≡ spreadTo f q from via (n + 1)
+    -- there is none below y
+    pub spread-start : (y : ℕ) → ((v : ℕ) → v < y → unmet f q v ≡ false) → q ≡ spreadTo f q from via y
     unfolding spreadTo
-    spread-turn n r b i t = turn (spreadTo f q from via) (λ x. f n && not (laneOf (q .seen) n)) (λ x. pushed x n from via) n refl r b i t
+    spread-start y h = skip (spreadTo f q from via) 0 y (omega arith) (λ v l m. still v (h v m))
+
+    -- y is one, and there is none between it and z
+    pub spread-next : (y z : ℕ) (r : Found) → r ≡ spreadTo f q from via y → unmet f q y ≡ true → y < z → ((v : ℕ) → y < v → v < z → unmet f q v ≡ false)
+        → pushed r y from via ≡ spreadTo f q from via z
+    unfolding spreadTo
+    spread-next y z r i t l h =
+        turn (spreadTo f q from via) (λ x. unmet f q y) (λ x. pushed x y from via) y refl r true i t
+        ∙ skip (spreadTo f q from via) (y + 1) z (omega arith) (λ v a b. still v (h v (omega arith) b))
 
     pub spread-end : spreadTo f q from via 256 ≡ spread f q from via
     unfolding spread
     spread-end = refl
 
-    -- there is none
-    spread-stays : (n : ℕ) → ((v : ℕ) → v < n → f v && not (laneOf (q .seen) v) ≡ false) → q ≡ spreadTo f q from via n
-    unfolding spreadTo
-    spread-stays zero h = refl
-    spread-stays (suc n) h = rw (h n (omega arith)) (spread-stays n (λ v l. h v (omega arith)))
-
-    pub spread-none : ((v : ℕ) → v < 256 → f v && not (laneOf (q .seen) v) ≡ false) → q ≡ spread f q from via
-    unfolding spread
-    spread-none h = spread-stays 256 h
-
   spread-ext : (f g : ℕ → Bool) (n : ℕ) → ((v : ℕ) → v < n → f v ≡ g v) → spreadTo f q from via n ≡ spreadTo g q from via n
   unfolding spreadTo
   spread-ext f g zero h = refl
-  spread-ext f g (suc n) h = rw (h n (omega arith), spread-ext f g n (λ v l. h v (omega arith))) refl
+  spread-ext f g (suc n) h = rw (unmet-ext f g q n (h n (omega arith)), spread-ext f g n (λ v l. h v (omega arith))) refl
 
   -- a row by its lanes
   pub spread-lanes : (f : ℕ → Bool) (row : List ℕ) → Lanes f row → spread (laneOf row) q from via ≡ spread f q from via
@@ -93,20 +130,32 @@ module _ (q : Found) (from via : ℕ) where
 
 -- from one place after another, of sessions
 module _ (edge : ℕ → ℕ → Bool) (q : Found) where
-  pub grow-start : q ≡ growTo edge q 0
-  unfolding growTo
-  grow-start = refl
+  module _ (within : ℕ → Bool) where
+    pub grow-start : q ≡ growTo within edge q 0
+    unfolding growTo
+    grow-start = refl
 
-  pub grow-turn : (i : ℕ) (r : Found) (b : Bool) → r ≡ growTo edge q i → ltb i (r .len) ≡ b → cond b (spread (edge (getD (r .order) i 0)) r (i + 1) 0) r ≡ growTo edge q (i + 1)
+    pub grow-turn : (i : ℕ) (r : Found) (b : Bool) → r ≡ growTo within edge q i → ltb i (r .len) && someBelow (unmet within r) 256 ≡ b
+        → cond b (spread (edge (getD (r .order) i 0)) r (i + 1) 0) r ≡ growTo within edge q (i + 1)
+    unfolding growTo
+    grow-turn i r b h t =
+        turn (growTo within edge q) (λ x. ltb i (x .len) && someBelow (unmet within x) 256) (λ x. spread (edge (getD (x .order) i 0)) x (i + 1) 0) i refl r b h t
+
+  -- the values asked for by their lanes
+  pub grow-lanes : (f : ℕ → Bool) (within : List ℕ) → Lanes f within → (n : ℕ) → growTo (laneOf within) edge q n ≡ growTo f edge q n
   unfolding growTo
-  grow-turn i r b h t = turn (growTo edge q) (λ x. ltb i (x .len)) (λ x. spread (edge (getD (x .order) i 0)) x (i + 1) 0) i refl r b h t
+  grow-lanes f within l zero = refl
+  grow-lanes f within l (suc i) =
+      ap (λ (r : Found). cond (ltb i (r .len) && someBelow (unmet (laneOf within) r) 256) (spread (edge (getD (r .order) i 0)) r (i + 1) 0) r) (grow-lanes f within l i)
+      ∙ ap (λ (b : Bool). cond (ltb i (growTo f edge q i .len) && b) (spread (edge (getD (growTo f edge q i .order) i 0)) (growTo f edge q i) (i + 1) 0) (growTo f edge q i))
+      (some-ext (unmet (laneOf within) (growTo f edge q i)) (unmet f (growTo f edge q i)) 256 (λ v h. unmet-ext (laneOf within) f (growTo f edge q i) v (l .each v h)))
 
 module _ (m : Model) (u : ℕ) where
-  pub sessions-are : sessionsFound m u ≡ growTo (changesTo m u) (spread (opensWith m u) nothing 0 0) 256
+  pub sessions-are : sessionsFound m u ≡ growTo (m .sessionValue) (changesTo m u) (spread (opensWith m u) nothing 0 0) 256
   unfolding sessionsFound
   sessions-are = refl
 
-  pub own-are : (held : ℕ) → ownFound m u held ≡ growTo (changesTo m u) (pushed nothing held 0 0) 256
+  pub own-are : (held : ℕ) → ownFound m u held ≡ growTo (m .sessionValue) (changesTo m u) (pushed nothing held 0 0) 256
   unfolding ownFound
   own-are held = refl
 
@@ -124,52 +173,109 @@ module _ (values : List ℕ) (q : Found) where
       (turn (startRoots values q) (λ x. not (laneOf (x .seen) (getD values j 0))) (λ x. pushed x (getD values j 0) 0 (256 + j)) j refl r b h
       (ap (λ (k : ℕ). not (laneOf (r .seen) k)) (sym e) ∙ t))
 
-module _ (m : Model) (helper : ℕ → Bool) (q : Found) where
-  -- the values that can be made
-  pub made-start : q ≡ madeRoots m helper q 0
-  unfolding madeRoots
-  made-start = refl
+-- session values that may
+module _ (m : Model) (made : Bool) (o n : ℕ) where
+  module _ (x : List ℕ) where
+    pub able-made : made ≡ true → Lanes (λ (v : ℕ). m .sessionValue v && makesWith m v n) x → Lanes (able m made o n) x
+    unfolding able
+    able-made e l = rw e l
 
-  pub made-turn : (o by : ℕ) (r : Found) (b : Bool) → by ≡ maker m helper o → r ≡ madeRoots m helper q o → ltb by 256 && not (laneOf (r .seen) o) ≡ b
-      → cond b (pushed r o 0 by) r ≡ madeRoots m helper q (o + 1)
-  unfolding madeRoots
-  made-turn o by r b e h t =
-      rw e
-      (turn (madeRoots m helper q) (λ x. ltb (maker m helper o) 256 && not (laneOf (x .seen) o)) (λ x. pushed x o 0 (maker m helper o)) o refl r b h
-      (ap (λ (k : ℕ). ltb k 256 && not (laneOf (r .seen) o)) (sym e) ∙ t))
+    pub able-changed : made ≡ false → Lanes (λ (v : ℕ). m .sessionValue v && modifiesTo m v o n) x → Lanes (able m made o n) x
+    unfolding able
+    able-changed e l = rw e l
 
-  -- what one helper after another may change an item at place i to
-  pub widen-start : (i : ℕ) → q ≡ widenTo m helper q i 0
-  unfolding widenTo
-  widen-start i = refl
+  -- the last of those that can be had
+  pub able-last : (ready row both : List ℕ) → Lanes (able m made o n) row → Lanes (λ (v : ℕ). laneOf ready v && laneOf row v) both
+      → highestOf both ≡ lastAble m (laneOf ready) made o n
+  unfolding lastAble
+  able-last ready row both R B =
+      highest-lanes (λ v. laneOf ready v && able m made o n v) both (lanes-as _ _ both B (λ v h. ap (λ (b : Bool). laneOf ready v && b) (R .each v h)))
 
-  pub widen-turn : (i v : ℕ) (r : Found) (b : Bool) → r ≡ widenTo m helper q i v → helper v ≡ b
-      → cond b (spread (modifiesTo m v (getD (q .order) i 0)) r (i + 1) v) r ≡ widenTo m helper q i (v + 1)
-  unfolding widenTo
-  widen-turn i v r b h t = turn (widenTo m helper q i) (λ x. helper v) (λ x. spread (modifiesTo m v (getD (q .order) i 0)) x (i + 1) v) v refl r b h t
+module _ (m : Model) (ready : ℕ → Bool) (q : Found) where
+  -- one item value after another
+  module _ (made : Bool) (o from : ℕ) where
+    resting : (v : ℕ) → unmet (m .itemValue) q v ≡ false → asked m ready made o q from (suc v) ≡ asked m ready made o q from v
+    unfolding asked
+    resting v e = rw e refl
+
+    pub asked-start : (y : ℕ) → ((v : ℕ) → v < y → unmet (m .itemValue) q v ≡ false) → q ≡ asked m ready made o q from y
+    unfolding asked
+    asked-start y h = skip (asked m ready made o q from) 0 y (omega arith) (λ v l g. resting v (h v g))
+
+    pub asked-next : (n z by : ℕ) (r : Found) (b : Bool) → by ≡ lastAble m ready made o n → r ≡ asked m ready made o q from n → unmet (m .itemValue) q n ≡ true → ltb by 256 ≡ b
+        → n < z → ((v : ℕ) → n < v → v < z → unmet (m .itemValue) q v ≡ false) → cond b (pushed r n from by) r ≡ asked m ready made o q from z
+    unfolding asked
+    asked-next n z by r b e i t u l h =
+        rw e
+        (turn (asked m ready made o q from) (λ x. unmet (m .itemValue) q n && ltb (lastAble m ready made o n) 256) (λ x. pushed x n from (lastAble m ready made o n)) n refl r b i
+        (rw t (ap (λ (k : ℕ). ltb k 256) (sym e) ∙ u)))
+        ∙ skip (asked m ready made o q from) (n + 1) z (omega arith) (λ v a c. resting v (h v (omega arith) c))
+
+  -- one session value after another
+  pub offered-start : (i : ℕ) → q ≡ offered m ready q i 0
+  unfolding offered
+  offered-start i = refl
+
+  pub offered-turn : (i k : ℕ) (r : Found) (b : Bool) → r ≡ offered m ready q i k → ready (255 - k) && someBelow (unmet (m .itemValue) r) 256 ≡ b
+      → cond b (spread (modifiesTo m (255 - k) (getD (q .order) i 0)) r (i + 1) (255 - k)) r ≡ offered m ready q i (k + 1)
+  unfolding offered
+  offered-turn i k r b h t =
+      turn (offered m ready q i) (λ x. ready (255 - k) && someBelow (unmet (m .itemValue) x) 256) (λ x. spread (modifiesTo m (255 - k) (getD (q .order) i 0)) x (i + 1) (255 - k)) k refl r b h t
+
+  -- from the narrower side
+  pub widened-offered : (i : ℕ) → countBelow ready 256 ≤ countBelow (unmet (m .itemValue) q) 256 → widened m ready q i ≡ offered m ready q i 256
+  unfolding widened
+  widened-offered i h = simp (le-leb (countBelow ready 256) (countBelow (unmet (m .itemValue) q) 256) h)
+
+  pub widened-asked : (i : ℕ) → countBelow (unmet (m .itemValue) q) 256 < countBelow ready 256 → widened m ready q i ≡ asked m ready false (getD (q .order) i 0) q (i + 1) 256
+  unfolding widened
+  widened-asked i h = simp (lt-leb (countBelow ready 256) (countBelow (unmet (m .itemValue) q) 256) h)
 
   -- from one place after another, of items
-  pub items-start : q ≡ growItems m helper q 0
+  pub items-start : q ≡ growItems m ready q 0
   unfolding growItems
   items-start = refl
 
-  pub items-turn : (i : ℕ) (r : Found) (b : Bool) → r ≡ growItems m helper q i → ltb i (r .len) ≡ b → cond b (widenTo m helper r i 256) r ≡ growItems m helper q (i + 1)
+  pub items-turn : (i : ℕ) (r : Found) (b : Bool) → r ≡ growItems m ready q i → ltb i (r .len) && someBelow (unmet (m .itemValue) r) 256 ≡ b
+      → cond b (widened m ready r i) r ≡ growItems m ready q (i + 1)
   unfolding growItems
-  items-turn i r b h t = turn (growItems m helper q) (λ x. ltb i (x .len)) (λ x. widenTo m helper x i 256) i refl r b h t
+  items-turn i r b h t = turn (growItems m ready q) (λ x. ltb i (x .len) && someBelow (unmet (m .itemValue) x) 256) (λ x. widened m ready x i) i refl r b h t
 
--- the first of the helpers that may make o
-pub maker-lowest : (m : Model) (helpers row both : List ℕ) (o : ℕ) → Lanes (λ v. m .sessionValue v && makesWith m v o) row → Lanes (λ v. laneOf helpers v && laneOf row v) both
-    → lowestOf both ≡ maker m (laneOf helpers) o
-unfolding maker
-maker-lowest m helpers row both o R B =
-    lowest-lanes (λ v. laneOf helpers v && (m .sessionValue v && makesWith m v o)) both
-    (lanes-as _ _ both B (λ v h. ap (λ (b : Bool). laneOf helpers v && b) (R .each v h)))
+-- session values that can be had, by their lanes
+module _ (m : Model) (f g : ℕ → Bool) (e : (v : ℕ) → v < 256 → f v ≡ g v) where
+  last-able-ext : (made : Bool) (o n : ℕ) → lastAble m f made o n ≡ lastAble m g made o n
+  unfolding lastAble
+  last-able-ext made o n = last-ext (λ v. f v && able m made o n v) (λ v. g v && able m made o n v) 256 (λ v h. ap (λ (b : Bool). b && able m made o n v) (e v h))
 
-pub one-is : (m : Model) (helper : ℕ → Bool) (j held : ℕ) → oneFound m helper j held ≡ growItems m helper (pushed nothing held 0 (256 + j)) 256
+  pub asked-ext : (made : Bool) (o : ℕ) (q : Found) (from n : ℕ) → asked m f made o q from n ≡ asked m g made o q from n
+  unfolding asked
+  asked-ext made o q from zero = refl
+  asked-ext made o q from (suc n) = rw (last-able-ext made o n, asked-ext made o q from n) refl
+
+  offered-ext : (q : Found) (i k : ℕ) → offered m f q i k ≡ offered m g q i k
+  unfolding offered
+  offered-ext q i zero = refl
+  offered-ext q i (suc k) = rw (e (255 - k) (omega arith), offered-ext q i k) refl
+
+  widened-ext : (q : Found) (i : ℕ) → widened m f q i ≡ widened m g q i
+  unfolding widened
+  widened-ext q i = rw (count-ext f g 256 e, offered-ext q i 256, asked-ext false (getD (q .order) i 0) q (i + 1) 256) refl
+
+  pub items-ext : (q : Found) (n : ℕ) → growItems m f q n ≡ growItems m g q n
+  unfolding growItems
+  items-ext q zero = refl
+  items-ext q (suc i) = rw (items-ext q i, widened-ext (growItems m g q i) i) refl
+
+-- those that helpers have, in the lists
+pub ready-lanes : (m : Model) (helpers own both : List ℕ) → Lanes (m .sessionValue) own → Lanes (λ (v : ℕ). laneOf helpers v && laneOf own v) both → Lanes (readyOf m (laneOf helpers)) both
+unfolding readyOf
+ready-lanes m helpers own both S B = lanes-as _ _ both B (λ v h. ap (λ (b : Bool). laneOf helpers v && b) (S .each v h))
+
+pub one-is : (m : Model) (helper : ℕ → Bool) (j held : ℕ) → oneFound m helper j held ≡ growItems m (readyOf m helper) (pushed nothing held 0 (256 + j)) 256
 unfolding oneFound
 one-is m helper j held = refl
 
 pub any-is : (m : Model) (helper : ℕ → Bool) (values : List ℕ)
-    → anyFound m helper values ≡ growItems m helper (madeRoots m helper (startRoots values nothing (length values)) 256) 256
+    → anyFound m helper values ≡ growItems m (readyOf m helper) (asked m (readyOf m helper) true 0 (startRoots values nothing (length values)) 0 256) 256
 unfolding anyFound
 any-is m helper values = refl

@@ -45,14 +45,17 @@ fn asked(
     let seen = q.seen;
     let unmet = lanes::minus(within, seen);
     let mut r = q;
-    for n in 0..256 {
-        if lanes::has(unmet, n) {
-            let by = lanes::highest(lanes::and(ready, able(rules, made, o, n as u8)));
-            if by < 256 {
-                let t = push(r, n as u8, from, by as u16);
-                r = t;
-            }
+    let mut rest = unmet;
+    let mut n = lanes::lowest(rest);
+    while n < 256 {
+        let by = lanes::highest(lanes::and(ready, able(rules, made, o, n as u8)));
+        if by < 256 {
+            let t = push(r, n as u8, from, by as u16);
+            r = t;
         }
+        let left = lanes::without(rest, n);
+        rest = left;
+        n = lanes::lowest(rest);
     }
     r
 }

@@ -5,12 +5,18 @@ use Rattle.lanes.specs.Lanes.{laneOf}
 use Rattle.policy.specs.Rules.{policyOf}
 use Rattle.allowed.specs.Allowed.{modelOf}
 use Rattle.search.specs.Queue.{pushed}
-use Rattle.search.specs.Items.{growItems}
+use Rattle.search.specs.Items.{growItems, readyOf}
 use Rattle.search.specs.declared.queue.Found.{Found}
-use Rattle.search.proofs.Laws.{one-is}
+use Rattle.search.proofs.Laws.{items-ext, one-is}
 use borrow.Author.Needs.{needs}
 use Rattle.search.proofs.items.one_item.Statement.{statement}
 use Rattle.search.proofs.items.one_item.Tie as tie
+
+ready-of-requires : tie.Need-ready-of-requires
+ready-of-requires c κs = search needs
+
+item-values-requires : tie.Need-item-values-requires
+item-values-requires c κs = search needs
 
 nothing-requires : tie.Need-nothing-requires
 nothing-requires c κs = search needs
@@ -26,12 +32,23 @@ grow-requires c κs = search needs
 
 returns : tie.Need-returns
 returns c =
-    let a = c .before .before .before .args in
+    let a = c .before .before .before .before .before .args in
     let m = modelOf (policyOf (a .rules)) in
-    let h = laneOf (a .helpers) in
-    c .grow .ensures
+    let ready = c .before .before .before .before .ready-of in
+    let h = readyOf m (laneOf (a .helpers)) in
+    c .grow .ensures (c .before .before .before .item-values .ensures)
+    ∙ items-ext m (laneOf (ready .result)) h (ready .ensures .each) (c .before .push .result) 256
     ∙ ap (λ (q : Found). growItems m h q 256) (c .before .push .ensures ∙ ap (λ (q : Found). pushed q (a .held) 0 (256 + a .j)) (c .before .before .nothing .ensures))
-    ∙ sym (one-is m h (a .j) (a .held))
+    ∙ sym (one-is m (laneOf (a .helpers)) (a .j) (a .held))
 
 pub one-item-spec : {M : Type 1} → statement M
-one-item-spec = tie.close (tie.spec nothing-requires add-push push-requires grow-requires returns)
+one-item-spec =
+    tie.close
+    (tie.spec
+    ready-of-requires
+    item-values-requires
+    nothing-requires
+    add-push
+    push-requires
+    grow-requires
+    returns)

@@ -1,28 +1,37 @@
 -- `search::grow` of sessions meets its contract. The loop's invariant: the places below i are gone through. The measure is what is left of the 256.
-use mathlib.Core.Path.{_≡_, ap, _∙_}
-use mathlib.Core.Bool.{true, false}
+use mathlib.Core.Path.{_≡_, ap, ap₂, _∙_}
+use mathlib.Core.Bool.{Bool, true, false, _&&_}
 use mathlib.Core.Logic.{⊎-elim}
 use Prim.Native.Nat.{_+_, _-_, _≤_}
 use native.Mathlib.Omega.{arith}
 use borrow.Author.Tests.{lt-ltb, le-ltb}
-use lib.ListN.{getD}
+use lib.ListN.{getD, length}
+use Rattle.lanes.specs.Lanes.{laneOf, someBelow}
+use Rattle.lanes.proofs.Laws.{lanes-own}
 use Rattle.policy.specs.Rules.{policyOf}
 use Rattle.runs.specs.Edge.{changesTo}
 use Rattle.allowed.specs.Allowed.{modelOf}
+use Rattle.search.specs.Queue.{unmet}
 use Rattle.search.specs.Sessions.{growTo}
-use Rattle.search.proofs.Laws.{grow-start, grow-turn, spread-lanes}
+use Rattle.search.proofs.Laws.{unmet-some, grow-start, grow-turn, spread-lanes}
 use borrow.Author.Needs.{needs}
 use Rattle.search.proofs.sessions.grow.Statement.{statement}
 use Rattle.search.proofs.sessions.grow.Tie as tie
 
 abbrev Inv-loop : tie.InvT-loop
-Inv-loop rules u r₀ i₀ r i = (i ≤ 256) × (r ≡ growTo (changesTo (modelOf (policyOf rules)) u) r₀ i)
+Inv-loop rules u within r₀ i₀ r i = (i ≤ 256) × (r ≡ growTo (laneOf within) (changesTo (modelOf (policyOf rules)) u) r₀ i)
 
 abbrev μ-loop : tie.MeasureT-loop
-μ-loop rules u r₀ i₀ r i = 256 - i
+μ-loop rules u within r₀ i₀ r i = 256 - i
 
 loop-holds : tie.Need-loop-holds Inv-loop μ-loop
-loop-holds c = let a = c .args in (search needs, grow-start (changesTo (modelOf (policyOf (a .rules))) (a .u)) (a .q))
+loop-holds c = let a = c .args in (search needs, grow-start (changesTo (modelOf (policyOf (a .rules))) (a .u)) (a .q) (laneOf (a .within)))
+
+minus-requires : tie.Need-minus-requires Inv-loop μ-loop
+minus-requires c κs = search needs
+
+is-none-requires : tie.Need-is-none-requires Inv-loop μ-loop
+is-none-requires c κs = search needs
 
 element-copy-out-changed-to : tie.Need-element-copy-out-changed-to Inv-loop μ-loop
 element-copy-out-changed-to c = search needs
@@ -49,11 +58,20 @@ loop-again : tie.Need-loop-again Inv-loop μ-loop
 loop-again c =
     let a = c .before .before .before .args in
     let l = c .before .before .loop in
-    let m = modelOf (policyOf (a .rules)) in (
+    let m = modelOf (policyOf (a .rules)) in
+    let f = laneOf (a .within) in
+    let k : length (a .within) ≡ 4 = search needs in
+    let W = lanes-own (a .within) k in (
       search needs,
       ⊎-elim
-          (λ z. z .4 ∙ z .3 .ensures ∙ spread-lanes (l .r) (l .i + 1) 0 (changesTo m (a .u) (getD (l .r .order) (l .i) 0)) (z .2 .result) (z .2 .ensures) ∙ grow-turn (changesTo m (a .u)) (a .q) (l .i) (l .r) true (l .inv .1) (lt-ltb (l .i) (l .r .len) (z .0 .taken)))
-          (λ z. z .1 ∙ grow-turn (changesTo m (a .u)) (a .q) (l .i) (l .r) false (l .inv .1) (le-ltb (l .i) (l .r .len) (z .0 .left)))
+          (λ z. z .8 ∙ z .7 .ensures ∙ spread-lanes (l .r) (l .i + 1) 0 (changesTo m (a .u) (getD (l .r .order) (l .i) 0)) (z .6 .result) (z .6 .ensures)
+          ∙ grow-turn (changesTo m (a .u)) (a .q) f (l .i) (l .r) true (l .inv .1)
+          (ap₂ _&&_ (lt-ltb (l .i) (l .r .len) (z .0 .taken)) (unmet-some f (l .r) (a .within) (z .2 .result) W (z .2 .ensures) (z .3 .result) true (z .3 .ensures) (z .4 .taken))))
+          (⊎-elim
+          (λ z. z .5
+          ∙ grow-turn (changesTo m (a .u)) (a .q) f (l .i) (l .r) false (l .inv .1)
+          (ap₂ _&&_ (lt-ltb (l .i) (l .r .len) (z .0 .taken)) (unmet-some f (l .r) (a .within) (z .2 .result) W (z .2 .ensures) (z .3 .result) false (z .3 .ensures) (z .4 .left))))
+          (λ z. z .1 ∙ grow-turn (changesTo m (a .u)) (a .q) f (l .i) (l .r) false (l .inv .1) (ap (λ (b : Bool). b && someBelow (unmet f (l .r)) 256) (le-ltb (l .i) (l .r .len) (z .0 .left)))))
           (c .if1 .came),
     )
 
@@ -62,7 +80,7 @@ returns c =
     let a = c .before .before .args in
     let l = c .before .loop in
     let e : l .i ≡ 256 = omega arith in
-    l .inv .1 ∙ ap (growTo (changesTo (modelOf (policyOf (a .rules))) (a .u)) (a .q)) e
+    l .inv .1 ∙ ap (growTo (laneOf (a .within)) (changesTo (modelOf (policyOf (a .rules))) (a .u)) (a .q)) e
 
 pub grow-spec : {M : Type 1} → statement M
 grow-spec =
@@ -71,6 +89,8 @@ grow-spec =
     Inv-loop
     μ-loop
     loop-holds
+    minus-requires
+    is-none-requires
     element-copy-out-changed-to
     changed-to-requires
     add-spread

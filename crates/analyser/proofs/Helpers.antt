@@ -1,65 +1,29 @@
--- A search of items asks of helpers below 256 only, and its depths are below 256. In order: one helper after another, one place after another, what
--- can be made; the item that is asked about; depths; pairs.
-use mathlib.Core.Path.{_≡_, sym, ap, ap₂, _∙_, subst}
-use mathlib.Core.Bool.{Bool, not, _&&_, cond}
+-- A search of items asks of helpers below 256 only, and its depths are below 256. In order: the item that is asked about; depths; how many values.
+use mathlib.Core.Path.{_≡_, sym, _∙_, subst}
+use mathlib.Core.Bool.{Bool}
 use mathlib.Core.List.{List}
-use Prim.Native.Nat.{ℕ, zero, suc, _+_, _≤_, _<_}
+use Prim.Native.Nat.{ℕ, _≤_, _<_}
 use native.Mathlib.Decide.{ℕ-discrete}
 use native.Mathlib.Omega.{arith}
 use lib.Dec.{ltb}
 use lib.ListN.{getD}
-use Rattle.lanes.specs.Lanes.{laneOf}
 use Rattle.policy.specs.Rules.{policyOf, valuesOf}
 use Rattle.policy.specs.declared.Rules.{Rules}
 use Rattle.policy.proofs.Laws.{values-length}
 use Rattle.runs.specs.Model.{Model}
-use Rattle.runs.specs.Edge.{makesWith, modifiesTo}
 use Rattle.allowed.specs.Allowed.{modelOf}
 use Rattle.allowed.proofs.Laws.{value-at}
-use Rattle.search.specs.Queue.{nothing, pushed, spread}
+use Rattle.search.specs.Queue.{nothing}
 use Rattle.search.specs.Sessions.{sessionsFound}
-use Rattle.search.specs.Items.{maker, madeRoots, widenTo, growItems, oneFound, anyFound}
-use Rattle.search.specs.Searched.{valueAt, depthAt, Searched}
+use Rattle.search.specs.Searched.{depthAt, Searched}
 use Rattle.search.specs.declared.queue.Found.{Found}
-use Rattle.search.proofs.Turns.{chosen, nothing-len, maker-is, made-none, made-turn, widen-none, widen-turn, grow-items-none, grow-items-turn, one-is, any-is}
+use Rattle.search.proofs.Turns.{chosen, nothing-len}
+use Rattle.search.proofs.Alike.{one-ext, any-ext}
 use Rattle.search.proofs.Theorems.{sessions-are-searched, one-item-is-searched, any-item-is-searched}
 use Rattle.replay.specs.declared.question.Question.{Question}
 use Rattle.analyser.specs.Found.{userFound, UsersFound}
 use Rattle.analyser.specs.Decide.{itemFound}
-use Rattle.analyser.proofs.Laws.{first-ext, item-one, item-any}
-
-module _ (m : Model) (f g : ℕ → Bool) (same : (v : ℕ) → v < 256 → f v ≡ g v) where
-  widen-ext : (q : Found) (i n : ℕ) → n ≤ 256 → widenTo m f q i n ≡ widenTo m g q i n
-  widen-ext q i zero h = widen-none m f q i ∙ sym (widen-none m g q i)
-  widen-ext q i (suc v) h =
-      widen-turn m f q i v
-      ∙ ap₂ (λ (b : Bool) (r : Found). cond b (spread (modifiesTo m v (valueAt q i)) r (i + 1) v) r) (same v (omega arith)) (widen-ext q i v (omega arith))
-      ∙ sym (widen-turn m g q i v)
-
-  grow-ext : (q : Found) (n : ℕ) → growItems m f q n ≡ growItems m g q n
-  grow-ext q zero = grow-items-none m f q ∙ sym (grow-items-none m g q)
-  grow-ext q (suc i) =
-      grow-items-turn m f q i
-      ∙ ap (λ (r : Found). cond (ltb i (r .len)) (widenTo m f r i 256) r) (grow-ext q i)
-      ∙ ap (λ (r : Found). cond (ltb i (growItems m g q i .len)) r (growItems m g q i)) (widen-ext (growItems m g q i) i 256 (omega arith))
-      ∙ sym (grow-items-turn m g q i)
-
-  maker-ext : (o : ℕ) → maker m f o ≡ maker m g o
-  maker-ext o =
-      maker-is m f o ∙ first-ext _ _ 0 256 (λ v h. ap (λ (b : Bool). b && (m .sessionValue v && makesWith m v o)) (same v h)) ∙ sym (maker-is m g o)
-
-  made-ext : (q : Found) (n : ℕ) → madeRoots m f q n ≡ madeRoots m g q n
-  made-ext q zero = made-none m f q ∙ sym (made-none m g q)
-  made-ext q (suc o) =
-      made-turn m f q o
-      ∙ ap₂ (λ (k : ℕ) (r : Found). cond (ltb k 256 && not (laneOf (r .seen) o)) (pushed r o 0 k) r) (maker-ext o) (made-ext q o)
-      ∙ sym (made-turn m g q o)
-
-  one-ext : (j held : ℕ) → oneFound m f j held ≡ oneFound m g j held
-  one-ext j held = one-is m f j held ∙ grow-ext _ 256 ∙ sym (one-is m g j held)
-
-  any-ext : (values : List ℕ) → anyFound m f values ≡ anyFound m g values
-  any-ext values = any-is m f values ∙ grow-ext _ 256 ∙ ap (λ (q : Found). growItems m g q 256) (made-ext _ 256) ∙ sym (any-is m g values)
+use Rattle.analyser.proofs.Laws.{item-one, item-any}
 
 module _ (r : Rules) (q : Question) where
   pub item-ext : (f g : ℕ → Bool) → ((v : ℕ) → v < 256 → f v ≡ g v) → itemFound r f q ≡ itemFound r g q

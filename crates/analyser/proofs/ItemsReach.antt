@@ -42,7 +42,7 @@ pub record ItemSearch (m : Model) (start : State) (users : List Found) (which : 
 module _ (m : Model) (start : State) (n k : ℕ) (B : Below m start n k) (hn : n ≤ 256) (hk : k ≤ 256) (few : m .users ≤ 16) (users : List Found) (found : UsersFound m users) where
   -- helpers are sessions of some user
   modify-to : (o p : ℕ) → ((via : ℕ) × Modify m (anyHas users) o via p) → ModifiedTo m o p
-  modify-to o p (v, (l, t, e)) =
+  modify-to o p (v, (l, t, s, e)) =
       let (u, r) = any-is m start n k B hn few users found v l .0 t in
       let (a, c) = modifies-to m v o p .0 e in
       (u, v, r, a, c)
@@ -50,10 +50,10 @@ module _ (m : Model) (start : State) (n k : ℕ) (B : Below m start n k) (hn : n
   to-modify : (o p : ℕ) → ModifiedTo m o p → (via : ℕ) × Modify m (anyHas users) o via p
   to-modify o p (u, v, r, a, c) =
       let l : v < 256 = omega (arith, hn, reach-below m start n k B r .1) in
-      (v, (l, any-is m start n k B hn few users found v l .1 (u, r), modifies-to m v o p .1 (a, c)))
+      (v, (l, any-is m start n k B hn few users found v l .1 (u, r), reach-listed m r, modifies-to m v o p .1 (a, c)))
 
   modify-byte : (x via v : ℕ) → Modify m (anyHas users) x via v → v < 256
-  modify-byte x via v e = omega (arith, hk, B .items v (modifies-to m via x v .0 (e .2) .0))
+  modify-byte x via v e = omega (arith, hk, B .items v (modifies-to m via x v .0 (e .3) .0))
 
   start-byte : (j : ℕ) → j < length (start .items) → getD (start .items) j 0 < 256
   start-byte j h = let e = itemAt-is start j in omega (arith, hk, e, B .starting j h)
@@ -151,4 +151,4 @@ good-as m f g items q e G = record { sized = G .sized; placed = G .placed; linke
 
     go : (i : ℕ) → Link (Begun m f items) (Modify m f) q i → Link (Begun m g items) (Modify m g) q i
     go i (root a b s) = root a b (begun _ _ s)
-    go i (link p a b c (l, t, z)) = link p a b c (l, sym (e _ l) ∙ t, z)
+    go i (link p a b c (l, t, s, z)) = link p a b c (l, sym (e _ l) ∙ t, s, z)

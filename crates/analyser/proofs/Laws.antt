@@ -344,7 +344,7 @@ pen-ready t p k ek a n s =
 
 -- the first hit
 
-pub first-ext : (f g : ℕ → Bool) (k n : ℕ) → ((v : ℕ) → v < k + n → f v ≡ g v) → firstFrom f k n ≡ firstFrom g k n
+first-ext : (f g : ℕ → Bool) (k n : ℕ) → ((v : ℕ) → v < k + n → f v ≡ g v) → firstFrom f k n ≡ firstFrom g k n
 unfolding firstFrom
 first-ext f g k zero h = refl
 first-ext f g k (suc n) h = rw (h k (omega arith), first-ext f g (suc k) n (λ v l. h v (omega arith))) refl

@@ -127,7 +127,7 @@ module _ (m : Model) (start : State) (n k room : ℕ) (users : List Found) (by :
 
   way-few : (j : ℕ) → j ≤ depthAt q pos → suc j * (n + 1) ≤ k * (n + 1)
   way-few j l =
-      let e : q .len ≤ k = search-within _ _ q G k begun (λ x via v z. B .items v (modifies-to m via x v .0 (z .2) .0)) in
+      let e : q .len ≤ k = search-within _ _ q G k begun (λ x via v z. B .items v (modifies-to m via x v .0 (z .3) .0)) in
       let i : suc j ≤ k = omega (arith, way-short _ _ q G pos h) in
       mul-le-mul-right (n + 1) i
     where
@@ -170,7 +170,7 @@ module _ (m : Model) (start : State) (n k room : ℕ) (users : List Found) (by :
     -- along a link
     item-more : (c o v p : ℕ) (w : Writing) → Modify m (named by) o v p → p < 256 → c + (n + 1) ≤ room → c + (n + 1) ≤ 66049
         → ItemReady m start c aim o w → ItemReady m start (c + (n + 1)) aim p (linked room users by 5 v aim p w)
-    item-more c o v p w (b, e, g) pf rf ff i =
+    item-more c o v p w (b, e, s, g) pf rf ff i =
         let l : List Item = set (i .items) aim p in
         let z : modifiesTo m v (getD (i .items) aim 0) p ≡ true = rw (i .content) g in
         record {

@@ -1,140 +1,119 @@
--- Searches of items: each place is worked off by every helper value in turn. In order: one place; all places; who makes a value; the roots that are
--- made; the roots that stand at the start; both.
+-- Searches of items: each place is worked off from the narrower side. In order: by session values; from either side; all places; the roots that
+-- stand at the start; those and the ones that are made.
 use mathlib.Core.Path.{_≡_, refl}
 use mathlib.Core.Bool.{Bool, true, false, not, _&&_}
 use mathlib.Core.List.{List}
 use mathlib.Core.Logic.{_⊎_, inl, inr}
-use Prim.Native.Nat.{ℕ, zero, suc, _+_, _≤_, _<_}
-use native.Mathlib.Decide.{ℕ-discrete, decLt}
+use Prim.Native.Nat.{ℕ, zero, suc, _+_, _-_, _≤_, _<_}
+use native.Mathlib.Decide.{ℕ-discrete}
 use native.Mathlib.Omega.{arith}
-use borrow.Author.Tests.{ltb-true, lt-ltb, not-true, not-false}
-use lib.Dec.{ltb}
+use borrow.Author.Tests.{not-true, not-false}
+use lib.Dec.{leb}
 use lib.ListN.{length, getD}
-use Rattle.lanes.specs.Lanes.{laneOf, firstFrom}
-use Rattle.lanes.proofs.Laws.{first-here, first-before}
+use Rattle.lanes.specs.Lanes.{laneOf, someBelow, countBelow}
 use Rattle.runs.specs.Model.{Model}
 use Rattle.runs.specs.Edge.{makesWith, modifiesTo}
-use Rattle.verdict.proofs.Below.{not-both, both, both-of}
-use Rattle.search.specs.Queue.{nothing, pushed, spread}
-use Rattle.search.specs.Items.{maker, madeRoots, widenTo, growItems, startRoots}
+use Rattle.verdict.proofs.Below.{both-of}
+use Rattle.verdict.proofs.Decided.{modifies-to}
+use Rattle.search.specs.Queue.{nothing, pushed, unmet, spread}
+use Rattle.search.specs.Items.{asked, offered, widened, growItems, readyOf, startRoots}
 use Rattle.search.specs.Searched.{valueAt, Good, Searched}
 use Rattle.search.specs.Claims.{Modify, Begun}
 use Rattle.search.specs.declared.queue.Found.{Found}
-use Rattle.search.proofs.Turns.{chosen, maker-is, made-none, made-turn, widen-none, widen-turn, grow-items-none, grow-items-turn, start-none, start-turn}
+use Rattle.search.proofs.Turns.{chosen, all-met, able-make, able-modify, ready-is, offered-none, offered-turn, widened-is, grow-items-none, grow-items-turn, start-none, start-turn}
 use Rattle.search.proofs.Pushing.{start, next, nothing-good}
 use Rattle.search.proofs.Spreading.{Brings, brings-none, brings-stay, brings-push, brings-then, spread-brings}
+use Rattle.search.proofs.Asking.{May, asked-brings}
 use Rattle.search.proofs.Growing.{Seeking, seeking-start, seeking-turn, seeking-end}
 
 module _ (m : Model) (helper : ℕ → Bool) (S : ℕ → ℕ → Type 0) where
-  -- what helpers with values below n may change an item to that has value x
-  abbrev By : ℕ → ℕ → ℕ → Type 0
-  By x n y = (w : ℕ) × (w < n) × (helper w ≡ true) × (modifiesTo m w x y ≡ true)
+  abbrev ready : ℕ → Bool
+  ready = readyOf m helper
 
-  by-less : (x n y : ℕ) → (z : By x (suc n) y) → Dec (z .0 ≡ n) → By x n y ⊎ ((helper n ≡ true) × (modifiesTo m n x y ≡ true))
-  by-less x n y (w, l, a, b) (yes e) = inr (rw e at a, rw e at b)
-  by-less x n y (w, l, a, b) (no d) = inl (w, omega arith, a, b)
+  modify : (o v n : ℕ) → v < 256 → ready v ≡ true → modifiesTo m v o n ≡ true → Modify m helper o v n
+  modify o v n h e t = let (a, b) = ready-is m helper v .0 e in (h, a, b, t)
+
+  modify-item : (o v n : ℕ) → Modify m helper o v n → m .itemValue n ≡ true
+  modify-item o v n (h, a, b, t) = modifies-to m v o n .0 t .0
+
+  -- what the last k session values may change an item to that has value x
+  abbrev By : ℕ → ℕ → ℕ → Type 0
+  By x k y = (w : ℕ) × (w < 256) × (256 ≤ w + k) × (ready w ≡ true) × (modifiesTo m w x y ≡ true)
+
+  by-less : (x k y : ℕ) → k < 256 → (z : By x (suc k) y) → Dec (z .0 ≡ 255 - k) → By x k y ⊎ ((ready (255 - k) ≡ true) × (modifiesTo m (255 - k) x y ≡ true))
+  by-less x k y h (w, l, g, a, b) (yes e) = inr (rw e at a, rw e at b)
+  by-less x k y h (w, l, g, a, b) (no d) = inl (w, l, omega arith, a, b)
 
   -- one place
   module _ (q : Found) (i : ℕ) (G : Good S (Modify m helper) q) (h : i < q .len) where
-    taken : (n : ℕ) (r : Found) → n < 256 → Brings S (Modify m helper) q (By (valueAt q i) n) r → helper n ≡ true
-        → Brings S (Modify m helper) q (By (valueAt q i) (suc n)) (spread (modifiesTo m n (valueAt q i)) r (i + 1) n)
-    taken n r l b e =
-        brings-then S (Modify m helper) q _ r (λ y. modifiesTo m n (valueAt q i) y ≡ true) _ _ b
-        (spread-brings S (Modify m helper) (modifiesTo m n (valueAt q i)) r (i + 1) n (b .good) (λ y k t. next i refl (omega (arith, b .grows .longer)) (rw (b .grows .value i h) (l, e, t))))
-        (λ v k z. go v (by-less (valueAt q i) n v z (ℕ-discrete (z .0) n)))
+    taken : (k : ℕ) (r : Found) → k < 256 → Brings S (Modify m helper) q (By (valueAt q i) k) r → ready (255 - k) ≡ true
+        → Brings S (Modify m helper) q (By (valueAt q i) (suc k)) (spread (modifiesTo m (255 - k) (valueAt q i)) r (i + 1) (255 - k))
+    taken k r l b e =
+        brings-then S (Modify m helper) q _ r (λ y. modifiesTo m (255 - k) (valueAt q i) y ≡ true) _ _ b
+        (spread-brings S (Modify m helper) (modifiesTo m (255 - k) (valueAt q i)) r (i + 1) (255 - k) (b .good)
+        (λ y g t. next i refl (omega (arith, b .grows .longer)) (rw (b .grows .value i h) (modify (valueAt q i) (255 - k) y (omega arith) e t))))
+        (λ v g z. go v (by-less (valueAt q i) k v l z (ℕ-discrete (z .0) (255 - k))))
       where
-        go : (v : ℕ) → By (valueAt q i) n v ⊎ ((helper n ≡ true) × (modifiesTo m n (valueAt q i) v ≡ true)) → By (valueAt q i) n v ⊎ (modifiesTo m n (valueAt q i) v ≡ true)
+        go : (v : ℕ) → By (valueAt q i) k v ⊎ ((ready (255 - k) ≡ true) × (modifiesTo m (255 - k) (valueAt q i) v ≡ true))
+            → By (valueAt q i) k v ⊎ (modifiesTo m (255 - k) (valueAt q i) v ≡ true)
         go v (inl z) = inl z
         go v (inr z) = inr (z .1)
 
-    left : (n : ℕ) (r : Found) → Brings S (Modify m helper) q (By (valueAt q i) n) r → helper n ≡ false → Brings S (Modify m helper) q (By (valueAt q i) (suc n)) r
-    left n r b e = brings-stay S (Modify m helper) q _ _ r b (λ v k z. go v (by-less (valueAt q i) n v z (ℕ-discrete (z .0) n)))
+    -- session value 255 - k can't be had, or all item values are seen
+    left : (k : ℕ) (r : Found) → k < 256 → Brings S (Modify m helper) q (By (valueAt q i) k) r → ready (255 - k) && someBelow (unmet (m .itemValue) r) 256 ≡ false
+        → Brings S (Modify m helper) q (By (valueAt q i) (suc k)) r
+    left k r l b e = brings-stay S (Modify m helper) q _ _ r b (λ v g z. go v g (by-less (valueAt q i) k v l z (ℕ-discrete (z .0) (255 - k))))
       where
-        go : (v : ℕ) → By (valueAt q i) n v ⊎ ((helper n ≡ true) × (modifiesTo m n (valueAt q i) v ≡ true)) → By (valueAt q i) n v ⊎ (laneOf (r .seen) v ≡ true)
-        go v (inl z) = inl z
-        go v (inr z) = not-both e (z .0)
+        go : (v : ℕ) → v < 256 → By (valueAt q i) k v ⊎ ((ready (255 - k) ≡ true) × (modifiesTo m (255 - k) (valueAt q i) v ≡ true))
+            → By (valueAt q i) k v ⊎ (laneOf (r .seen) v ≡ true)
+        go v g (inl z) = inl z
+        go v g (inr (a, t)) =
+            let met : someBelow (unmet (m .itemValue) r) 256 ≡ false = rw a at e in
+            inr (all-met (m .itemValue) r met v g (modifies-to m (255 - k) (valueAt q i) v .0 t .0))
 
-    widen-brings : (n : ℕ) → n ≤ 256 → Brings S (Modify m helper) q (By (valueAt q i) n) (widenTo m helper q i n)
-    widen-brings zero l = rw (widen-none m helper q i) (brings-none S (Modify m helper) q _ G (λ v t. omega (arith, t .1)))
-    widen-brings (suc n) l =
-        let b : Brings S (Modify m helper) q (By (valueAt q i) n) (widenTo m helper q i n) = widen-brings n (omega arith) in
-        rw (widen-turn m helper q i n) (chosen (Brings S (Modify m helper) q (By (valueAt q i) (suc n))) (helper n) _ _ (λ e. taken n _ (omega arith) b e) (λ e. left n _ b e))
+    -- by session values
+    offered-brings : (k : ℕ) → k ≤ 256 → Brings S (Modify m helper) q (By (valueAt q i) k) (offered m ready q i k)
+    offered-brings zero l = rw (offered-none m ready q i) (brings-none S (Modify m helper) q _ G (λ v (w, a, b, c, t). omega arith))
+    offered-brings (suc k) l =
+        let b : Brings S (Modify m helper) q (By (valueAt q i) k) (offered m ready q i k) = offered-brings k (omega arith) in
+        rw (offered-turn m ready q i k)
+        (chosen (Brings S (Modify m helper) q (By (valueAt q i) (suc k))) _ _ _
+        (λ e. taken k _ (omega arith) b (both-of (ready (255 - k)) (someBelow (unmet (m .itemValue) (offered m ready q i k)) 256) e .0)) (λ e. left k _ (omega arith) b e))
 
-    widen-all : Brings S (Modify m helper) q (λ v. (via : ℕ) × Modify m helper (valueAt q i) via v) (widenTo m helper q i 256)
-    widen-all = brings-stay S (Modify m helper) q _ _ _ (widen-brings 256 (omega arith)) (λ v l z. inl (z .0, z .1 .0, z .1 .1, z .1 .2))
+    -- from either side
+    abbrev Wide : Found → Type 0
+    Wide = Brings S (Modify m helper) q (λ v. (via : ℕ) × Modify m helper (valueAt q i) via v)
+
+    wide-offered : Wide (offered m ready q i 256)
+    wide-offered =
+        brings-stay S (Modify m helper) q _ _ _ (offered-brings 256 (omega arith)) (λ v l (w, (a, b, c, t)). inl (w, a, omega arith, ready-is m helper w .1 (b, c), t))
+
+    wide-asked : Wide (asked m ready false (valueAt q i) q (i + 1) 256)
+    wide-asked =
+        brings-stay S (Modify m helper) q _ _ _ (asked-brings m ready false (valueAt q i) S (Modify m helper) q (i + 1) G (λ n v p. next i refl h (may-modify n v p)))
+        (λ v l z. inl (z .0, modify-may v (z .0) (z .1)))
+      where
+        may-modify : (n v : ℕ) → May m ready false (valueAt q i) n v → Modify m helper (valueAt q i) v n
+        may-modify n v (a, b, c) = modify (valueAt q i) v n a b (able-modify m (valueAt q i) n v .0 c .1)
+
+        modify-may : (n v : ℕ) → Modify m helper (valueAt q i) v n → May m ready false (valueAt q i) n v
+        modify-may n v (a, b, c, t) = (a, ready-is m helper v .1 (b, c), able-modify m (valueAt q i) n v .1 (c, t))
+
+    widened-brings : Wide (widened m ready q i)
+    widened-brings =
+        rw (widened-is m ready q i)
+        (chosen Wide (leb (countBelow ready 256) (countBelow (unmet (m .itemValue) q) 256)) _ _ (λ e. wide-offered) (λ e. wide-asked))
 
   -- all places
-  pub grow-items-seeks : (q : Found) → Seeking S (Modify m helper) 0 q → (i : ℕ) → Seeking S (Modify m helper) i (growItems m helper q i)
-  grow-items-seeks q s zero = rw (grow-items-none m helper q) s
+  pub grow-items-seeks : (q : Found) → Seeking S (Modify m helper) 0 q → (i : ℕ) → Seeking S (Modify m helper) i (growItems m (readyOf m helper) q i)
+  grow-items-seeks q s zero = rw (grow-items-none m ready q) s
   grow-items-seeks q s (suc i) =
-      let r : Seeking S (Modify m helper) i (growItems m helper q i) = grow-items-seeks q s i in
-      rw (grow-items-turn m helper q i)
-      (seeking-turn S (Modify m helper) i (growItems m helper q i) _ r (λ h. widen-all (growItems m helper q i) i (r .good) h))
+      let r : Seeking S (Modify m helper) i (growItems m ready q i) = grow-items-seeks q s i in
+      rw (grow-items-turn m ready q i)
+      (seeking-turn S (Modify m helper) (m .itemValue) modify-item i (growItems m ready q i) _ r (λ h. widened-brings (growItems m ready q i) i (r .good) h))
 
-  pub grow-items-searched : (q : Found) → Seeking S (Modify m helper) 0 q → Searched S (Modify m helper) (growItems m helper q 256)
+  pub grow-items-searched : (q : Found) → Seeking S (Modify m helper) 0 q → Searched S (Modify m helper) (growItems m (readyOf m helper) q 256)
   grow-items-searched q s = seeking-end S (Modify m helper) _ (grow-items-seeks q s 256)
-
--- who makes a value
-module _ (m : Model) (helper : ℕ → Bool) (o : ℕ) where
-  -- that v makes o
-  abbrev pub Makes : ℕ → Type 0
-  Makes v = (helper v ≡ true) × (m .sessionValue v ≡ true) × (makesWith m v o ≡ true)
-
-  pub maker-makes : maker m helper o < 256 → Makes (maker m helper o)
-  maker-makes h =
-      let f : ℕ → Bool = λ v. helper v && (m .sessionValue v && makesWith m v o) in
-      let k : firstFrom f 0 256 < 256 = rw (maker-is m helper o) at h in
-      rw (maker-is m helper o) (all (firstFrom f 0 256) (first-here f 0 256 k))
-    where
-      all : (v : ℕ) → helper v && (m .sessionValue v && makesWith m v o) ≡ true → Makes v
-      all v e =
-          let (a, d) = both-of (helper v) (m .sessionValue v && makesWith m v o) e in
-          let (b, c) = both-of (m .sessionValue v) (makesWith m v o) d in
-          (a, b, c)
-
-  pub makes-maker : (v : ℕ) → v < 256 → Makes v → maker m helper o < 256
-  makes-maker v h (a, b, c) = rw (maker-is m helper o) (go (decLt (firstFrom f 0 256) 256))
-    where
-      f : ℕ → Bool
-      f v = helper v && (m .sessionValue v && makesWith m v o)
-
-      go : Dec (firstFrom f 0 256 < 256) → firstFrom f 0 256 < 256
-      go (yes l) = l
-      go (no d) =
-          not-both (first-before f 0 256 v (omega arith) (omega arith))
-          (both (helper v) (m .sessionValue v && makesWith m v o) a (both (m .sessionValue v) (makesWith m v o) b c))
-
--- the roots that are made
-module _ (m : Model) (helper : ℕ → Bool) (S : ℕ → ℕ → Type 0) (E : ℕ → ℕ → ℕ → Type 0) (c : (o : ℕ) → maker m helper o < 256 → S (maker m helper o) o) (q : Found) where
-  abbrev Made : ℕ → ℕ → Type 0
-  Made n o = (o < n) × (maker m helper o < 256)
-
-  made-taken : (n : ℕ) (r : Found) → n < 256 → Brings S E q (Made n) r → ltb (maker m helper n) 256 && not (laneOf (r .seen) n) ≡ true
-      → Brings S E q (Made (suc n)) (pushed r n 0 (maker m helper n))
-  made-taken n r h b e =
-      let (t, u) = both-of (ltb (maker m helper n) 256) (not (laneOf (r .seen) n)) e in
-      brings-push S E q _ _ r n 0 (maker m helper n) b h (not-true (laneOf (r .seen) n) u) (start refl (c n (ltb-true (maker m helper n) 256 t)))
-      (λ v l z. go v z (ℕ-discrete v n))
-    where
-      go : (v : ℕ) → Made (suc n) v → Dec (v ≡ n) → Made n v ⊎ (v ≡ n)
-      go v z (yes w) = inr w
-      go v z (no w) = inl (omega (arith, z .0), z .1)
-
-  made-left : (n : ℕ) (r : Found) → Brings S E q (Made n) r → ltb (maker m helper n) 256 && not (laneOf (r .seen) n) ≡ false → Brings S E q (Made (suc n)) r
-  made-left n r b e = brings-stay S E q _ _ r b (λ v l z. go v z (ℕ-discrete v n))
-    where
-      known : maker m helper n < 256 → laneOf (r .seen) n ≡ true
-      known h = not-false (laneOf (r .seen) n) (rw (lt-ltb (maker m helper n) 256 h) at e)
-
-      go : (v : ℕ) → Made (suc n) v → Dec (v ≡ n) → Made n v ⊎ (laneOf (r .seen) v ≡ true)
-      go v (k, l) (yes w) = inr (rw w (known (rw w at l)))
-      go v z (no w) = inl (omega (arith, z .0), z .1)
-
-  pub made-brings : Good S E q → (n : ℕ) → n ≤ 256 → Brings S E q (λ o. (o < n) × (maker m helper o < 256)) (madeRoots m helper q n)
-  made-brings G zero h = rw (made-none m helper q) (brings-none S E q _ G (λ v t. omega (arith, t .0)))
-  made-brings G (suc n) h =
-      let b : Brings S E q (Made n) (madeRoots m helper q n) = made-brings G n (omega arith) in
-      rw (made-turn m helper q n) (chosen (Brings S E q (Made (suc n))) _ _ _ (λ e. made-taken n _ (omega arith) b e) (λ e. made-left n _ b e))
 
 -- the roots that stand at the start
 module _ (values : List ℕ) (byte : (j : ℕ) → j < length values → getD values j 0 < 256) (S : ℕ → ℕ → Type 0) (E : ℕ → ℕ → ℕ → Type 0)
@@ -167,12 +146,17 @@ module _ (values : List ℕ) (byte : (j : ℕ) → j < length values → getD va
 
 -- the starting items, then those that are made
 pub begun : (m : Model) (helper : ℕ → Bool) (values : List ℕ) → ((j : ℕ) → j < length values → getD values j 0 < 256) → (E : ℕ → ℕ → ℕ → Type 0)
-    → Seeking (Begun m helper values) E 0 (madeRoots m helper (startRoots values nothing (length values)) 256)
+    → Seeking (Begun m helper values) E 0 (asked m (readyOf m helper) true 0 (startRoots values nothing (length values)) 0 256)
 begun m helper values byte E =
     let a = start-brings values byte (Begun m helper values) E (λ j h. inl (j, h, refl, refl)) nothing (nothing-good _ E) (length values) (omega arith) in
-    let b = made-brings m helper (Begun m helper values) E (λ o h. let p = maker-makes m helper o h in inr (h, p .0, p .1, p .2)) _ (a .good) 256 (omega arith) in
-    seeking-start _ E nothing _ (brings-then _ E nothing _ _ _ _ _ a b (λ v h z. which v h (z .0) (z .1)))
+    let b = asked-brings m (readyOf m helper) true 0 (Begun m helper values) E _ 0 (a .good) (λ n v p. start refl (inr (may-make n v p))) in
+    seeking-start _ E nothing _ (brings-then _ E nothing _ _ _ _ _ a b (λ v h z. which v (z .0) (z .1)))
   where
-    which : (v : ℕ) → v < 256 → (via : ℕ) → Begun m helper values via v → ((j : ℕ) × (j < length values) × (v ≡ getD values j 0)) ⊎ ((v < 256) × (maker m helper v < 256))
-    which v h via (inl (j, l, e, z)) = inl (j, l, z)
-    which v h via (inr (l, a, b, c)) = inr (h, makes-maker m helper v via l (a, b, c))
+    may-make : (n v : ℕ) → May m (readyOf m helper) true 0 n v → (v < 256) × (helper v ≡ true) × (m .sessionValue v ≡ true) × (makesWith m v n ≡ true)
+    may-make n v (a, b, c) =
+        let (d, e) = ready-is m helper v .0 b in
+        (a, d, e, able-make m 0 n v .0 c .1)
+
+    which : (v via : ℕ) → Begun m helper values via v → ((j : ℕ) × (j < length values) × (v ≡ getD values j 0)) ⊎ ((w : ℕ) × May m (readyOf m helper) true 0 v w)
+    which v via (inl (j, l, e, z)) = inl (j, l, z)
+    which v via (inr (l, a, b, c)) = inr (via, (l, ready-is m helper via .1 (a, b), able-make m 0 v via .1 (b, c)))

@@ -1,18 +1,16 @@
--- A queue that brings in all of what is asked for, whatever the starts and the links are. In order: what it is to bring in; nothing asked, nothing
--- done, a push, one after the other; a spread brings in what its test holds of.
+-- A queue that brings in all of what is asked for, whatever the starts and the links are. In order: what it is to bring in; all seen, nothing asked,
+-- nothing done, a push, one after the other; one number after another; a spread brings in what its test holds of.
 use mathlib.Core.Path.{_≡_, refl, _∙_}
-use mathlib.Core.Bool.{Bool, true, false, not, _&&_}
+use mathlib.Core.Bool.{Bool, true, false, cond}
 use mathlib.Core.Logic.{_⊎_, inl, inr}
 use Prim.Native.Nat.{ℕ, zero, suc, _≤_, _<_}
 use native.Mathlib.Decide.{ℕ-discrete}
 use native.Mathlib.Omega.{arith}
-use borrow.Author.Tests.{not-true, not-false}
 use Rattle.lanes.specs.Lanes.{laneOf}
-use Rattle.verdict.proofs.Below.{both-of}
-use Rattle.search.specs.Queue.{pushed, spreadTo, spread}
+use Rattle.search.specs.Queue.{pushed, unmet, spreadTo, spread}
 use Rattle.search.specs.Searched.{Good}
 use Rattle.search.specs.declared.queue.Found.{Found}
-use Rattle.search.proofs.Turns.{chosen, Push, spread-none, spread-turn, spread-is}
+use Rattle.search.proofs.Turns.{chosen, Push, unmet-new, unmet-known, spread-none, spread-turn, spread-is}
 use Rattle.search.proofs.Pushing.{Grows, grows-refl, grows-trans, push-lane, push-other, push-grows, Comes, comes-grows, pushes, push-good}
 
 -- r is good, has what q has, and every byte that P holds of
@@ -22,9 +20,13 @@ pub record Brings (S : ℕ → ℕ → Type 0) (E : ℕ → ℕ → ℕ → Type
   pub all : (v : ℕ) → v < 256 → P v → laneOf (r .seen) v ≡ true
 
 module _ (S : ℕ → ℕ → Type 0) (E : ℕ → ℕ → ℕ → Type 0) where
-  -- q itself, where nothing is asked for
+  -- q itself, where what is asked for is seen
+  pub brings-seen : (q : Found) (P : ℕ → Type 0) → Good S E q → ((v : ℕ) → v < 256 → P v → laneOf (q .seen) v ≡ true) → Brings S E q P q
+  brings-seen q P G w = record { good = G; grows = grows-refl q; all = w }
+
+  -- and where nothing is asked for
   pub brings-none : (q : Found) (P : ℕ → Type 0) → Good S E q → ((v : ℕ) → P v → ⊥) → Brings S E q P q
-  brings-none q P G n = record { good = G; grows = grows-refl q; all = λ v h t. absurd (n v t) }
+  brings-none q P G n = brings-seen q P G (λ v h t. absurd (n v t))
 
   -- nothing is done, where what else is asked for is seen
   pub brings-stay : (q : Found) (P Q : ℕ → Type 0) (r : Found) → Brings S E q P r → ((v : ℕ) → v < 256 → Q v → P v ⊎ (laneOf (r .seen) v ≡ true)) → Brings S E q Q r
@@ -60,49 +62,56 @@ module _ (S : ℕ → ℕ → Type 0) (E : ℕ → ℕ → ℕ → Type 0) where
       go v h (inr p) = b .all v h p
 
 -- after the numbers below n: from n on nothing is new
-record Spreading (S : ℕ → ℕ → Type 0) (E : ℕ → ℕ → ℕ → Type 0) (f : ℕ → Bool) (q : Found) (n : ℕ) (r : Found) : Type 0 where
-  brings : Brings S E q (λ v. (v < n) × (f v ≡ true)) r
+record Spreading (S : ℕ → ℕ → Type 0) (E : ℕ → ℕ → ℕ → Type 0) (P : ℕ → Type 0) (q : Found) (n : ℕ) (r : Found) : Type 0 where
+  brings : Brings S E q (λ v. (v < n) × P v) r
   rest : (v : ℕ) → v < 256 → n ≤ v → laneOf (r .seen) v ≡ laneOf (q .seen) v
 
-module _ (S : ℕ → ℕ → Type 0) (E : ℕ → ℕ → ℕ → Type 0) (f : ℕ → Bool) (q : Found) (from via : ℕ) (G : Good S E q)
-    (c : (y : ℕ) → y < 256 → f y ≡ true → Comes S E q from via y) where
-  taken : (n : ℕ) (r : Found) → n < 256 → Spreading S E f q n r → f n && not (laneOf (q .seen) n) ≡ true → Spreading S E f q (suc n) (pushed r n from via)
+-- one number after another is pushed, each by its own link, if it passes a test; what passes is new and comes to q, what doesn't pass is seen if it is asked for
+module _ (S : ℕ → ℕ → Type 0) (E : ℕ → ℕ → ℕ → Type 0) (P : ℕ → Type 0) (q : Found) (from : ℕ) (by : ℕ → ℕ) (test : ℕ → Bool) (G : Good S E q)
+    (new : (n : ℕ) → n < 256 → test n ≡ true → (laneOf (q .seen) n ≡ false) × Comes S E q from (by n) n)
+    (old : (n : ℕ) → n < 256 → test n ≡ false → P n → laneOf (q .seen) n ≡ true) where
+  taken : (n : ℕ) (r : Found) → n < 256 → Spreading S E P q n r → test n ≡ true → Spreading S E P q (suc n) (pushed r n from (by n))
   taken n r h s e =
-      let (t, u) = both-of (f n) (not (laneOf (q .seen) n)) e in
-      let new : laneOf (r .seen) n ≡ false = s .rest n h (omega arith) ∙ not-true (laneOf (q .seen) n) u in
-      let d : Comes S E r from via n = comes-grows S E q r from via n (s .brings .grows) (c n h t) in
-      let p : Push r n from via (pushed r n from via) = pushes S E r (s .brings .good) n from via h new d in
+      let (a, c) = new n h e in
+      let b : laneOf (r .seen) n ≡ false = s .rest n h (omega arith) ∙ a in
+      let d : Comes S E r from (by n) n = comes-grows S E q r from (by n) n (s .brings .grows) c in
+      let p : Push r n from (by n) (pushed r n from (by n)) = pushes S E r (s .brings .good) n from (by n) h b d in
       record {
-        brings = brings-push S E q _ _ r n from via (s .brings) h new (c n h t) (λ v l z. below v (z .0) (z .1) (ℕ-discrete v n));
-        rest = λ v l z. push-other r n from via _ p v l (λ w. omega arith) ∙ s .rest v l (omega arith);
+        brings = brings-push S E q _ _ r n from (by n) (s .brings) h b c (λ v l z. below v (z .0) (z .1) (ℕ-discrete v n));
+        rest = λ v l z. push-other r n from (by n) _ p v l (λ w. omega arith) ∙ s .rest v l (omega arith);
       }
     where
-      below : (v : ℕ) → v < suc n → f v ≡ true → Dec (v ≡ n) → ((v < n) × (f v ≡ true)) ⊎ (v ≡ n)
+      below : (v : ℕ) → v < suc n → P v → Dec (v ≡ n) → ((v < n) × P v) ⊎ (v ≡ n)
       below v l t (yes z) = inr z
       below v l t (no z) = inl (omega arith, t)
 
-  left : (n : ℕ) (r : Found) → n < 256 → Spreading S E f q n r → f n && not (laneOf (q .seen) n) ≡ false → Spreading S E f q (suc n) r
+  left : (n : ℕ) (r : Found) → n < 256 → Spreading S E P q n r → test n ≡ false → Spreading S E P q (suc n) r
   left n r h s e = record {
     brings = brings-stay S E q _ _ r (s .brings) (λ v l z. below v l (z .0) (z .1) (ℕ-discrete v n));
     rest = λ v l z. s .rest v l (omega arith);
   }
     where
-      known : f n ≡ true → laneOf (q .seen) n ≡ true
-      known t = not-false (laneOf (q .seen) n) (rw t at e)
-
-      below : (v : ℕ) → v < 256 → v < suc n → f v ≡ true → Dec (v ≡ n) → ((v < n) × (f v ≡ true)) ⊎ (laneOf (r .seen) v ≡ true)
-      below v k l t (yes z) = inr (s .brings .grows .keeps v k (rw z (known (rw z at t))))
+      below : (v : ℕ) → v < 256 → v < suc n → P v → Dec (v ≡ n) → ((v < n) × P v) ⊎ (laneOf (r .seen) v ≡ true)
+      below v k l t (yes z) = inr (s .brings .grows .keeps v k (rw z (old n h e (rw z at t))))
       below v k l t (no z) = inl (omega arith, t)
 
-  spread-to : (n : ℕ) → n ≤ 256 → Spreading S E f q n (spreadTo f q from via n)
-  spread-to zero h = rw (spread-none f q from via) (record {
-    brings = brings-none S E q _ G (λ v t. omega (arith, t .0));
-    rest = λ v l z. refl;
-  })
-  spread-to (suc n) h =
-      let s : Spreading S E f q n (spreadTo f q from via n) = spread-to n (omega arith) in
-      rw (spread-turn f q from via n) (chosen (Spreading S E f q (suc n)) _ _ _ (λ e. taken n _ (omega arith) s e) (λ e. left n _ (omega arith) s e))
+  module _ (X : ℕ → Found) (none : X 0 ≡ q) (turn : (n : ℕ) → X (suc n) ≡ cond (test n) (pushed (X n) n from (by n)) (X n)) where
+    each-to : (n : ℕ) → n ≤ 256 → Spreading S E P q n (X n)
+    each-to zero h = rw none (record {
+      brings = brings-none S E q _ G (λ v t. omega (arith, t .0));
+      rest = λ v l z. refl;
+    })
+    each-to (suc n) h =
+        let s : Spreading S E P q n (X n) = each-to n (omega arith) in
+        rw (turn n) (chosen (Spreading S E P q (suc n)) _ _ _ (λ e. taken n _ (omega arith) s e) (λ e. left n _ (omega arith) s e))
 
-  -- a spread brings in what its test holds of
-  pub spread-brings : Brings S E q (λ v. f v ≡ true) (spread f q from via)
-  spread-brings = rw (spread-is f q from via) (brings-stay S E q _ _ _ (spread-to 256 (omega arith) .brings) (λ v h t. inl (h, t)))
+    pub each-brings : Brings S E q P (X 256)
+    each-brings = brings-stay S E q _ _ _ (each-to 256 (omega arith) .brings) (λ v h t. inl (h, t))
+
+-- a spread brings in what its test holds of
+pub spread-brings : (S : ℕ → ℕ → Type 0) (E : ℕ → ℕ → ℕ → Type 0) (f : ℕ → Bool) (q : Found) (from via : ℕ) → Good S E q
+    → ((y : ℕ) → y < 256 → f y ≡ true → Comes S E q from via y) → Brings S E q (λ v. f v ≡ true) (spread f q from via)
+spread-brings S E f q from via G c =
+    rw (spread-is f q from via)
+    (each-brings S E (λ v. f v ≡ true) q from (λ n. via) (unmet f q) G (λ n h e. let (t, a) = unmet-new f q n e in (a, c n h t)) (λ n h e t. unmet-known f q n e t)
+    (spreadTo f q from via) (spread-none f q from via) (spread-turn f q from via))

@@ -1,24 +1,26 @@
 -- Laws of the queue, for this crate and those above; the only file that opens its definitions.
--- In order: choices; counts; nothing found; a push; a turn of each loop.
+-- In order: choices; counts; nothing found; a push; what is not found yet; a turn of each loop.
 use mathlib.Core.Path.{_≡_, refl, sym, ap, _∙_}
 use mathlib.Core.Bool.{Bool, true, false, not, _&&_, _||_, cond, or-false}
 use mathlib.Core.List.{List}
+use mathlib.Core.Logic.{_↔_}
 use Prim.Native.Nat.{ℕ, zero, suc, _+_, _-_, _/_, _%_, _<_}
 use native.Mathlib.Decide.{ℕ-discrete}
 use native.Mathlib.Omega.{arith}
-use borrow.Author.Tests.{eq-eqb, lt-leb, ne-eqb}
+use borrow.Author.Tests.{eq-eqb, lt-leb, ne-eqb, not-true, not-false}
 use lib.Dec.{ltb, leb, eqb}
 use lib.ListN.{length, getD, length-set, getD-replicate}
 use lib.Seq.{getD-set-same, getD-set-other}
-use Rattle.lanes.specs.Lanes.{laneOf, bitOf, firstFrom, countBelow}
-use Rattle.lanes.proofs.Laws.{count-below-le, count-ext}
+use Rattle.lanes.specs.Lanes.{laneOf, bitOf, someBelow, lastBelow, countBelow}
+use Rattle.lanes.proofs.Laws.{some-none, count-below-le, count-ext}
 use Rattle.lanes.proofs.Bits.{bit-zero}
 use Rattle.lanes.proofs.Words.{lanes-added}
 use Rattle.runs.specs.Model.{Model}
 use Rattle.runs.specs.Edge.{opensWith, changesTo, makesWith, modifiesTo}
-use Rattle.search.specs.Queue.{nothing, depthAfter, pushed, spreadTo, spread}
+use Rattle.verdict.proofs.Below.{both, both-of}
+use Rattle.search.specs.Queue.{nothing, depthAfter, pushed, unmet, spreadTo, spread}
 use Rattle.search.specs.Sessions.{growTo, sessionsFound, ownFound}
-use Rattle.search.specs.Items.{maker, madeRoots, widenTo, growItems, oneFound, startRoots, anyFound}
+use Rattle.search.specs.Items.{able, lastAble, asked, offered, widened, growItems, readyOf, oneFound, startRoots, anyFound}
 use Rattle.search.specs.Searched.{valueAt, fromAt, viaAt, depthAt, placeAt, Sized}
 use Rattle.search.specs.declared.queue.Found.{Found}
 
@@ -134,12 +136,34 @@ depth-link q j h d =
     let c : leb 256 j ≡ false = lt-leb 256 j h in
     rw (a, b, c) (omega arith)
 
+module _ (within : ℕ → Bool) (q : Found) where
+  -- n is asked for and not seen
+  pub unmet-new : (n : ℕ) → unmet within q n ≡ true → (within n ≡ true) × (laneOf (q .seen) n ≡ false)
+  unfolding unmet
+  unmet-new n e =
+      let (a, b) = both-of (within n) (not (laneOf (q .seen) n)) e in
+      (a, not-true (laneOf (q .seen) n) b)
+
+  -- or it is seen, if it is asked for
+  pub unmet-known : (n : ℕ) → unmet within q n ≡ false → within n ≡ true → laneOf (q .seen) n ≡ true
+  unfolding unmet
+  unmet-known n e t = not-false (laneOf (q .seen) n) (rw t at e)
+
+  -- where nothing is unmet, everything that is asked for is seen
+  pub all-met : someBelow (unmet within q) 256 ≡ false → (n : ℕ) → n < 256 → within n ≡ true → laneOf (q .seen) n ≡ true
+  all-met e n h t = unmet-known n (some-none (unmet within q) 256 e n h) t
+
+-- what is unmet is the same where what is asked for is
+pub unmet-ext : (f g : ℕ → Bool) (q : Found) (n : ℕ) → f n ≡ g n → unmet f q n ≡ unmet g q n
+unfolding unmet
+unmet-ext f g q n e = ap (λ (b : Bool). b && not (laneOf (q .seen) n)) e
+
 module _ (f : ℕ → Bool) (q : Found) (from via : ℕ) where
   pub spread-none : spreadTo f q from via 0 ≡ q
   unfolding spreadTo
   spread-none = refl
 
-  pub spread-turn : (n : ℕ) → spreadTo f q from via (suc n) ≡ cond (f n && not (laneOf (q .seen) n)) (pushed (spreadTo f q from via n) n from via) (spreadTo f q from via n)
+  pub spread-turn : (n : ℕ) → spreadTo f q from via (suc n) ≡ cond (unmet f q n) (pushed (spreadTo f q from via n) n from via) (spreadTo f q from via n)
   unfolding spreadTo
   spread-turn n = refl
 
@@ -147,61 +171,90 @@ module _ (f : ℕ → Bool) (q : Found) (from via : ℕ) where
   unfolding spread
   spread-is = refl
 
-module _ (edge : ℕ → ℕ → Bool) (q : Found) where
-  pub grow-none : growTo edge q 0 ≡ q
+module _ (within : ℕ → Bool) (edge : ℕ → ℕ → Bool) (q : Found) where
+  pub grow-none : growTo within edge q 0 ≡ q
   unfolding growTo
   grow-none = refl
 
-  pub grow-turn : (i : ℕ) → growTo edge q (suc i)
-      ≡ cond (ltb i (growTo edge q i .len)) (spread (edge (valueAt (growTo edge q i) i)) (growTo edge q i) (i + 1) 0) (growTo edge q i)
+  pub grow-turn : (i : ℕ) → growTo within edge q (suc i)
+      ≡ cond (ltb i (growTo within edge q i .len) && someBelow (unmet within (growTo within edge q i)) 256)
+      (spread (edge (valueAt (growTo within edge q i) i)) (growTo within edge q i) (i + 1) 0) (growTo within edge q i)
   unfolding growTo
   grow-turn i = refl
 
-pub sessions-is : (m : Model) (u : ℕ) → sessionsFound m u ≡ growTo (changesTo m u) (spread (opensWith m u) nothing 0 0) 256
+pub sessions-is : (m : Model) (u : ℕ) → sessionsFound m u ≡ growTo (m .sessionValue) (changesTo m u) (spread (opensWith m u) nothing 0 0) 256
 unfolding sessionsFound
 sessions-is m u = refl
 
-pub own-is : (m : Model) (u held : ℕ) → ownFound m u held ≡ growTo (changesTo m u) (pushed nothing held 0 0) 256
+pub own-is : (m : Model) (u held : ℕ) → ownFound m u held ≡ growTo (m .sessionValue) (changesTo m u) (pushed nothing held 0 0) 256
 unfolding ownFound
 own-is m u held = refl
 
-module _ (m : Model) (helper : ℕ → Bool) where
-  pub maker-is : (o : ℕ) → maker m helper o ≡ firstFrom (λ v. helper v && (m .sessionValue v && makesWith m v o)) 0 256
-  unfolding maker
-  maker-is o = refl
+-- a session with value v may make an item with value n
+pub able-make : (m : Model) (o n v : ℕ) → (able m true o n v ≡ true) ↔ ((m .sessionValue v ≡ true) × (makesWith m v n ≡ true))
+unfolding able
+able-make m o n v = (both-of (m .sessionValue v) (makesWith m v n), λ h. both (m .sessionValue v) (makesWith m v n) (h .0) (h .1))
 
-  pub made-none : (q : Found) → madeRoots m helper q 0 ≡ q
-  unfolding madeRoots
-  made-none q = refl
+-- or change one from o to n
+pub able-modify : (m : Model) (o n v : ℕ) → (able m false o n v ≡ true) ↔ ((m .sessionValue v ≡ true) × (modifiesTo m v o n ≡ true))
+unfolding able
+able-modify m o n v = (both-of (m .sessionValue v) (modifiesTo m v o n), λ h. both (m .sessionValue v) (modifiesTo m v o n) (h .0) (h .1))
 
-  pub made-turn : (q : Found) (o : ℕ) → madeRoots m helper q (suc o)
-      ≡ cond (ltb (maker m helper o) 256 && not (laneOf (madeRoots m helper q o .seen) o)) (pushed (madeRoots m helper q o) o 0 (maker m helper o)) (madeRoots m helper q o)
-  unfolding madeRoots
-  made-turn q o = refl
+pub ready-is : (m : Model) (helper : ℕ → Bool) (v : ℕ) → (readyOf m helper v ≡ true) ↔ ((helper v ≡ true) × (m .sessionValue v ≡ true))
+unfolding readyOf
+ready-is m helper v = (both-of (helper v) (m .sessionValue v), λ h. both (helper v) (m .sessionValue v) (h .0) (h .1))
 
-  pub widen-none : (q : Found) (i : ℕ) → widenTo m helper q i 0 ≡ q
-  unfolding widenTo
-  widen-none q i = refl
+pub ready-ext : (m : Model) (f g : ℕ → Bool) (v : ℕ) → f v ≡ g v → readyOf m f v ≡ readyOf m g v
+unfolding readyOf
+ready-ext m f g v e = ap (λ (b : Bool). b && m .sessionValue v) e
 
-  pub widen-turn : (q : Found) (i v : ℕ) → widenTo m helper q i (suc v)
-      ≡ cond (helper v) (spread (modifiesTo m v (valueAt q i)) (widenTo m helper q i v) (i + 1) v) (widenTo m helper q i v)
-  unfolding widenTo
-  widen-turn q i v = refl
+module _ (m : Model) (ready : ℕ → Bool) where
+  pub last-able-is : (made : Bool) (o n : ℕ) → lastAble m ready made o n ≡ lastBelow (λ v. ready v && able m made o n v) 256
+  unfolding lastAble
+  last-able-is made o n = refl
 
-  pub grow-items-none : (q : Found) → growItems m helper q 0 ≡ q
+  pub asked-none : (made : Bool) (o : ℕ) (q : Found) (from : ℕ) → asked m ready made o q from 0 ≡ q
+  unfolding asked
+  asked-none made o q from = refl
+
+  pub asked-turn : (made : Bool) (o : ℕ) (q : Found) (from n : ℕ) → asked m ready made o q from (suc n)
+      ≡ cond (unmet (m .itemValue) q n && ltb (lastAble m ready made o n) 256) (pushed (asked m ready made o q from n) n from (lastAble m ready made o n))
+      (asked m ready made o q from n)
+  unfolding asked
+  asked-turn made o q from n = refl
+
+  pub offered-none : (q : Found) (i : ℕ) → offered m ready q i 0 ≡ q
+  unfolding offered
+  offered-none q i = refl
+
+  pub offered-turn : (q : Found) (i k : ℕ) → offered m ready q i (suc k)
+      ≡ cond (ready (255 - k) && someBelow (unmet (m .itemValue) (offered m ready q i k)) 256)
+      (spread (modifiesTo m (255 - k) (valueAt q i)) (offered m ready q i k) (i + 1) (255 - k)) (offered m ready q i k)
+  unfolding offered
+  offered-turn q i k = refl
+
+  pub widened-is : (q : Found) (i : ℕ) → widened m ready q i
+      ≡ cond (leb (countBelow ready 256) (countBelow (unmet (m .itemValue) q) 256)) (offered m ready q i 256) (asked m ready false (valueAt q i) q (i + 1) 256)
+  unfolding widened
+  widened-is q i = refl
+
+  pub grow-items-none : (q : Found) → growItems m ready q 0 ≡ q
   unfolding growItems
   grow-items-none q = refl
 
-  pub grow-items-turn : (q : Found) (i : ℕ) → growItems m helper q (suc i)
-      ≡ cond (ltb i (growItems m helper q i .len)) (widenTo m helper (growItems m helper q i) i 256) (growItems m helper q i)
+  pub grow-items-turn : (q : Found) (i : ℕ) → growItems m ready q (suc i)
+      ≡ cond (ltb i (growItems m ready q i .len) && someBelow (unmet (m .itemValue) (growItems m ready q i)) 256) (widened m ready (growItems m ready q i) i)
+      (growItems m ready q i)
   unfolding growItems
   grow-items-turn q i = refl
 
-  pub one-is : (j held : ℕ) → oneFound m helper j held ≡ growItems m helper (pushed nothing held 0 (256 + j)) 256
+module _ (m : Model) (helper : ℕ → Bool) where
+  pub one-is : (j held : ℕ) → oneFound m helper j held ≡ growItems m (readyOf m helper) (pushed nothing held 0 (256 + j)) 256
   unfolding oneFound
   one-is j held = refl
 
-  pub any-is : (values : List ℕ) → anyFound m helper values ≡ growItems m helper (madeRoots m helper (startRoots values nothing (length values)) 256) 256
+  pub any-is : (values : List ℕ) → anyFound m helper values
+      ≡ growItems m (readyOf m helper) (asked m (readyOf m helper) true 0 (startRoots values nothing (length values)) 0 256) 256
   unfolding anyFound
   any-is values = refl
 

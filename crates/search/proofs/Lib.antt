@@ -5,6 +5,6 @@ pub mod Spreading  -- a queue that brings in what is asked for
 pub mod Growing  -- a queue whose places are worked off in order: sessions
 pub mod Asking  -- by item values: those that aren't found yet, one after another
 pub mod ItemGrowing  -- places of items, each worked off from the narrower side
-pub mod Alike  -- searches that ask alike are the same
+pub mod Alike  -- the same search of items where helpers agree
 pub mod Paths  -- the way from a start to a place
 pub mod Theorems  -- the claims, one line each

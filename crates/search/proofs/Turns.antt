@@ -153,11 +153,6 @@ module _ (within : ℕ → Bool) (q : Found) where
   pub all-met : someBelow (unmet within q) 256 ≡ false → (n : ℕ) → n < 256 → within n ≡ true → laneOf (q .seen) n ≡ true
   all-met e n h t = unmet-known n (some-none (unmet within q) 256 e n h) t
 
--- what is unmet is the same where what is asked for is
-pub unmet-ext : (f g : ℕ → Bool) (q : Found) (n : ℕ) → f n ≡ g n → unmet f q n ≡ unmet g q n
-unfolding unmet
-unmet-ext f g q n e = ap (λ (b : Bool). b && not (laneOf (q .seen) n)) e
-
 module _ (f : ℕ → Bool) (q : Found) (from via : ℕ) where
   pub spread-none : spreadTo f q from via 0 ≡ q
   unfolding spreadTo

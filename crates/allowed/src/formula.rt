@@ -59,9 +59,9 @@ pub(super) fn listed_values(class: Class) -> [u64; 4]
     ensures { λ r. ⌜ Lanes (listedOf (attrsOf class)) r ⌝ }
 {
     let mut set = lanes::none();
-    for v in 0..256 {
-        if listed(class, v as u64) {
-            let more = lanes::add(set, v);
+    for n in 0..256 {
+        if listed(class, n as u64) {
+            let more = lanes::add(set, n);
             set = more;
         }
     }

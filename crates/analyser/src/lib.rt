@@ -236,7 +236,7 @@ fn decide(rules: Rules, users: [Found; 16], q: Question, rows: &mut [u64]) -> An
     Answer {
         verdict: Verdict::Leak,
         pairs,
-        values,
+        values: items.len,
         rows: end.at,
     }
 }

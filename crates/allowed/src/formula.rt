@@ -23,10 +23,10 @@ pub(super) fn says(rules: Rules, f: usize, holders: Holders) -> bool
 pub(super) fn sweep(rules: Rules, f: usize, at: u8, holders: Holders) -> [u64; 4]
     ensures { λ r. ⌜ Lanes (swept (policyOf rules) f at holders) r ⌝ }
 {
-    if 4 + rules.permissions as usize <= f {
-        return lanes::none();
+    if f < 4 + rules.permissions as usize {
+        let n = byte_at(&rules.lengths, f);
+        let values = planes::values_of(planes::class_of(rules.classes, at));
+        return planes::held_by(rules.classes, at, holders, &rules.nodes, f, n, values);
     }
-    let n = byte_at(&rules.lengths, f);
-    let values = planes::values_of(planes::class_of(rules.classes, at));
-    planes::held_by(rules.classes, at, holders, &rules.nodes, f, n, values)
+    lanes::none()
 }

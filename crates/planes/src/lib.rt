@@ -80,10 +80,10 @@ fn put_at(at: u8) -> u8
 
 // Of the lanes of word w that are asked about, those where formula f holds. A word that no lane of is asked about is not looked at.
 fn asked<'a, 'b>(
-    values: &'a [u8],
-    sizes: &'a [u8],
-    shifts: &'b [u8],
-    bits: &'b [u8],
+    values: &'a [u8; 256],
+    sizes: &'a [u8; 256],
+    shifts: &'b [u8; 256],
+    bits: &'b [u8; 256],
     nodes: &[u32],
     f: usize,
     n: u8,

@@ -13,7 +13,7 @@ use Rattle.planes.proofs.asked.Tie as tie
 
 returns : tie.Need-returns
 returns c l h at T j m =
-    let a = c .before .before .before .before .before .before .args in
+    let a = c .before .before .args in
     bit-zero j
     ∙ sym (ap (λ (t : Bool). t && holds l (withValue h at (64 * a .w + j)) (nodesOf (a .nodes .now) (a .f) (a .n))) (ap (λ (x : ℕ). bitOf x j) (c .if1 .taken) ∙ bit-zero j))
 
@@ -29,7 +29,7 @@ word-requires c κs = search needs
 returns-2 : tie.Need-returns-2
 returns-2 c l h at T j m =
     let a = c .before .before .before .before .before .before .before .before .before .args in
-    bit-and (a .among) (c .word .result) j ∙ ap (λ (t : Bool). bitOf (a .among) j && t) (c .word .ensures l h at T (a .w) (c .before .before .planes-of .ensures) .each j m)
+    bit-and (a .among) (c .word .result) j ∙ ap (λ (t : Bool). bitOf (a .among) j && t) (c .word .ensures l h at T (a .w) (c .before .before .before .before .before .before .planes-of .ensures) .each j m)
 
 pub asked-spec : {M : Type 1} → statement M
 asked-spec =

@@ -59,8 +59,8 @@ asked-requires-4 c κs = search needs
 
 returns : tie.Need-returns
 returns c =
-    let d = c .before .before .before .before .before .before .before .before .before .before .before .before .before .before .before .before .before .before .before .before .before .before .before .before .before .before .before .before .before .before .before .before .before in
-    let q = d .before .before .before .before .before .before .before .before .before .before .before in
+    let d = c .before .before .before .before .before .before .before .before .before .before .before .before .before .before .before .before .before .before .before .before .before in
+    let q = d .before .before .before .before .before .before .before in
     let a = q .before .before .before .before .before .before .args in
     let l = listsOf (a .classes) in
     let o = q .before .before .before .operands-of in
@@ -75,8 +75,8 @@ returns c =
     let says : ℕ → Bool = λ v. holds l (withValue (a .holders) (a .at) v) (nodesOf (a .nodes .now) (a .f) (a .n)) in
     lanes-by _ _ _ _ _
     (λ j m. d .asked .ensures l (a .holders) (a .at) T j m ∙ ap (λ (t : Bool). t && says (64 * 0 + j)) (sym (word-lane (a .t7) 0 j m)))
-    (λ j m. c .before .before .before .before .before .before .before .before .before .before .before .before .before .before .before .before .before .before .before .before .before .before .asked2 .ensures l (a .holders) (a .at) T j m ∙ ap (λ (t : Bool). t && says (64 * 1 + j)) (sym (word-lane (a .t7) 1 j m)))
-    (λ j m. c .before .before .before .before .before .before .before .before .before .before .before .asked3 .ensures l (a .holders) (a .at) T j m ∙ ap (λ (t : Bool). t && says (64 * 2 + j)) (sym (word-lane (a .t7) 2 j m)))
+    (λ j m. c .before .before .before .before .before .before .before .before .before .before .before .before .before .before .asked2 .ensures l (a .holders) (a .at) T j m ∙ ap (λ (t : Bool). t && says (64 * 1 + j)) (sym (word-lane (a .t7) 1 j m)))
+    (λ j m. c .before .before .before .before .before .before .before .asked3 .ensures l (a .holders) (a .at) T j m ∙ ap (λ (t : Bool). t && says (64 * 2 + j)) (sym (word-lane (a .t7) 2 j m)))
     (λ j m. c .asked4 .ensures l (a .holders) (a .at) T j m ∙ ap (λ (t : Bool). t && says (64 * 3 + j)) (sym (word-lane (a .t7) 3 j m)))
 
 pub held-by-spec : {M : Type 1} → statement M

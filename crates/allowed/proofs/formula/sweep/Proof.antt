@@ -11,12 +11,6 @@ cast-if1 c = search needs
 add-if1 : tie.Need-add-if1
 add-if1 c = search needs
 
-none-requires : tie.Need-none-requires
-none-requires c κs = search needs
-
-returns : tie.Need-returns
-returns c = let a = c .before .before .args in swept-none (a .t1) (a .f) (a .at) (a .holders) _ (omega arith) (c .none .ensures)
-
 byte-at-requires : tie.Need-byte-at-requires
 byte-at-requires c κs = search needs
 
@@ -29,12 +23,18 @@ values-of-requires c κs = search needs
 held-by-requires : tie.Need-held-by-requires
 held-by-requires c κs = search needs
 
-returns-2 : tie.Need-returns-2
-returns-2 c =
+returns : tie.Need-returns
+returns c =
     let q = c .before .before .before .before .before in
     let a = q .before .before .before .before .before .before .before .before .args in
     swept-held (a .t1) (a .f) (a .at) (a .holders) _ (q .before .class-of .result) (q .before .before .before .byte-at .result) (q .values-of .result) (omega arith)
     (q .before .before .before .byte-at .ensures) (q .before .class-of .ensures) (q .values-of .ensures) (c .held-by .ensures)
+
+none-requires : tie.Need-none-requires
+none-requires c κs = search needs
+
+returns-2 : tie.Need-returns-2
+returns-2 c = let a = c .before .before .args in swept-none (a .t1) (a .f) (a .at) (a .holders) _ (omega arith) (c .none .ensures)
 
 pub sweep-spec : {M : Type 1} → statement M
 sweep-spec =
@@ -42,10 +42,10 @@ sweep-spec =
     (tie.spec
     cast-if1
     add-if1
-    none-requires
-    returns
     byte-at-requires
     class-of-requires
     values-of-requires
     held-by-requires
+    returns
+    none-requires
     returns-2)

@@ -1,0 +1,52 @@
+//! The library against the second program: generated inputs, the same for the same seed. Usage: differential RULES_CASE INPUTS [SEED]
+//! Ends with 1 at the first difference.
+
+#[path = "../second/mod.rs"]
+mod second;
+
+mod compare;
+mod generate;
+mod library;
+mod random;
+mod spoil;
+mod steps;
+mod writing;
+
+use compare::Tally;
+use random::Random;
+
+/// All inputs; the number of the one that differs, and how.
+fn run(program: &str, inputs: u64, seed: u64, tally: &mut Tally) -> Result<(), String> {
+    for k in 0..inputs {
+        let random = Random::new(seed + k);
+        compare::input(tally, &random).map_err(|text| format!("input {k} of seed {seed}: {text}"))?;
+    }
+    let batch = 1000;
+    for k in 0..inputs.div_ceil(10 * batch) {
+        writing::many(tally, &Random::new(seed ^ (k << 32)), program, batch.min(inputs))?;
+    }
+    Ok(())
+}
+
+fn main() {
+    let words: Vec<String> = std::env::args().collect();
+    let number = |k: usize| words.get(k).and_then(|word| word.parse().ok());
+    let (Some(program), Some(inputs)) = (words.get(1), number(2)) else {
+        eprintln!("usage: differential RULES_CASE INPUTS [SEED]");
+        std::process::exit(2);
+    };
+    let mut tally = Tally::default();
+    let result = run(program, inputs, number(3).unwrap_or(1), &mut tally);
+    println!("{inputs} inputs; answers by number:");
+    for (number, count) in tally.numbers.iter().enumerate() {
+        println!("{number:4} {count:10}");
+    }
+    println!("safe {}, leak {}, replayed {}, steps {}", tally.safe, tally.leak, tally.replayed, tally.steps);
+    match result {
+        Ok(()) => println!("no difference"),
+        Err(text) => {
+            println!("DIFFERENT {text}");
+            std::process::exit(1);
+        }
+    }
+}

@@ -5,7 +5,7 @@ ghost use Prim.Native.Nat.{_-_, _≤_, _<_};
 ghost use lib.Dec.{eqb};
 ghost use lib.ListN.{length, getD};
 ghost use Rattle.search.specs.Queue.{nothing as nothingOf};
-ghost use Rattle.search.specs.Searched.{valueAt, viaAt, fromAt, depthAt, placeAt};
+ghost use Rattle.search.specs.Searched.{valueAt, viaAt, depthAt, placeAt};
 ghost use Rattle.search.specs.Path.{ancestor as ancestorOf, wayAt};
 ghost use Rattle.leak.specs.Writing.{rowOf, wrote, writingOf, Wrote};
 ghost use Rattle.leak.specs.Way.{wayRows, brought, helped, helpedBy};
@@ -26,7 +26,7 @@ fn half_at(s: &[u16], k: usize) -> u16
     if k < s.len() { s[k] } else { 0 }
 }
 
-// The value at a place; its parent's place plus 1; how many links it is from a start; and the place plus 1 of a value.
+// The value at a place; what its link was made by; and how many links it is from a start.
 fn value_at(q: Found, i: usize) -> u8
     ensures { λ r. ⌜ r ≡ valueAt q i ⌝ }
 {
@@ -37,12 +37,6 @@ pub(super) fn via_at(q: Found, i: usize) -> u16
     ensures { λ r. ⌜ r ≡ viaAt q i ⌝ }
 {
     half_at(&q.via, i)
-}
-
-fn from_at(q: Found, i: usize) -> u16
-    ensures { λ r. ⌜ r ≡ fromAt q i ⌝ }
-{
-    half_at(&q.from, i)
 }
 
 pub(super) fn depth_at(q: Found, i: usize) -> u16
@@ -62,9 +56,10 @@ pub(super) fn place_of(q: Found, v: usize) -> usize
 fn ancestor(q: Found, k: usize, pos: usize) -> usize
     ensures { λ r. ⌜ r ≡ ancestorOf q k pos ⌝ }
 {
+    let parents = q.from;
     let mut p = pos;
     for i in 0..k {
-        p = before(from_at(q, p) as u64) as usize;
+        p = before(half_at(&parents, p) as u64) as usize;
     }
     p
 }

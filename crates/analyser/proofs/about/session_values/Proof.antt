@@ -6,8 +6,8 @@ use Rattle.search.specs.Queue.{nothing}
 use Rattle.analyser.proofs.Laws.{session-own, session-none}
 use Rattle.search.specs.Sessions.{ownFound}
 use borrow.Author.Needs.{needs}
-use Rattle.analyser.proofs.session_values.Statement.{statement}
-use Rattle.analyser.proofs.session_values.Tie as tie
+use Rattle.analyser.proofs.about.session_values.Statement.{statement}
+use Rattle.analyser.proofs.about.session_values.Tie as tie
 
 cast-k : tie.Need-cast-k
 cast-k c = search needs

@@ -1,5 +1,5 @@
 -- `analyser::aim_of` meets its contract.
-use Rattle.analyser.proofs.Laws.{aim-is}
+use Rattle.analyser.proofs.Questions.{aim-is}
 use borrow.Author.Needs.{needs}
 use Rattle.analyser.proofs.about.aim_of.Statement.{statement}
 use Rattle.analyser.proofs.about.aim_of.Tie as tie

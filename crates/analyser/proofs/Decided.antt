@@ -24,7 +24,7 @@ use Rattle.analyser.specs.Decide.{itemFound, sessionFound, whoFound, aim
 use Rattle.analyser.specs.declared.Answer.{Answer}
 use Rattle.analyser.specs.declared.Verdict.{Verdict}
 use Rattle.analyser.specs.declared.Verdict.the-variants as Verdict
-use Rattle.analyser.proofs.Laws.{hit-inside, hit-value-ext, hit-place-ext, who-ext, leak-place, leak-value}
+use Rattle.analyser.proofs.Questions.{hit-inside, hit-value-ext, hit-place-ext, who-ext, leak-place, leak-value}
 use Rattle.analyser.proofs.Helpers.{item-ext, item-shallow}
 
 module _ (r : Rules) (users : List Found) (q : Question) (helpers : List ℕ) (items own : Found) (who : List ℕ) (place : ℕ)

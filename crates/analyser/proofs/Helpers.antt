@@ -23,7 +23,7 @@ use Rattle.search.proofs.Theorems.{sessions-are-searched, one-item-is-searched,
 use Rattle.replay.specs.declared.question.Question.{Question}
 use Rattle.analyser.specs.Found.{userFound, UsersFound}
 use Rattle.analyser.specs.Decide.{itemFound}
-use Rattle.analyser.proofs.Laws.{item-one, item-any}
+use Rattle.analyser.proofs.Questions.{item-one, item-any}
 
 module _ (r : Rules) (q : Question) where
   pub item-ext : (f g : ℕ → Bool) → ((v : ℕ) → v < 256 → f v ≡ g v) → itemFound r f q ≡ itemFound r g q

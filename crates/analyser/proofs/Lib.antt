@@ -1,4 +1,6 @@
-pub mod Laws  -- what the analyser finds, one more at a time
+pub mod Laws  -- what the users' searches find together, one more at a time
+pub mod Starts  -- starting sessions, one more at a time, and the pen
+pub mod Questions  -- the first hit, rows, and the searches that a question asks for
 pub mod Helpers  -- a search of items asks of helpers below 256 only, and its depths are small
 pub mod Decided  -- what deciding comes to
 pub mod Widths  -- of a file's rules: widths, how values are bounded, what stands at the start

@@ -1,38 +1,28 @@
 // The analyser: safe or leak, for runs of any length.
 ghost use mathlib.Core.Path.{_≡_};
 ghost use Prim.Native.Nat.{ℕ, _^_, _≤_, _<_};
-ghost use mathlib.Core.Bool.{cond};
-ghost use lib.Dec.{eqb};
-ghost use lib.ListN.{length, getD};
+ghost use lib.ListN.{length};
 ghost use Rattle.rules.specs.Answers.{reading};
-ghost use Rattle.lanes.specs.Lanes.{laneOf, Lanes};
 ghost use Rattle.policy.specs.Policy.{width};
 ghost use Rattle.policy.specs.Rules.{attrsOf};
 ghost use Rattle.analyser.specs.Answer.{told};
 ghost use Rattle.analyser.specs.Found.{userFound};
-ghost use Rattle.analyser.specs.Decide.{rowsFor, itemFound, sessionFound, whoFound, aimOf, DecidedBy};
+ghost use Rattle.analyser.specs.Decide.{rowsFor, DecidedBy};
 ghost use Rattle.analyser.specs.Never.{Means};
 
+mod about;
 mod aim;
 mod hit;
 mod users;
 
-use leak::Aim;
 use leak::write_leak;
 use policy::Rules;
-use policy::Sessions;
-use policy::Values;
-use policy::shape::byte_at;
 use policy::shape::class_width;
 use replay::question::Question;
 use replay::question::asks;
 use rules::Reading;
 use rules::read_rules;
-use search::items::any_item;
-use search::items::one_item;
 use search::queue::Found;
-use search::queue::nothing;
-use search::sessions::own_values;
 
 // Safe, a leak, or the number that is given instead.
 pub enum Verdict {
@@ -86,129 +76,16 @@ fn rows_needed(rules: Rules) -> usize
     n + k * (n + 1) + 1
 }
 
-// Value k, or 0 past the end.
-fn value_of(items: Values, k: usize) -> u8
-    ensures { λ r. ⌜ r ≡ getD (items .values) k 0 ⌝ }
-{
-    let values = items.values;
-    byte_at(&values, k)
-}
-
-// The user of starting session k, or 0 past the end.
-fn owner_of(starting: Sessions, k: usize) -> u8
-    ensures { λ r. ⌜ r ≡ getD (starting .users) k 0 ⌝ }
-{
-    let owners = starting.users;
-    byte_at(&owners, k)
-}
-
-// The value of starting session k, or 0 past the end.
-fn held_of(starting: Sessions, k: usize) -> u8
-    ensures { λ r. ⌜ r ≡ getD (starting .values) k 0 ⌝ }
-{
-    let values = starting.values;
-    byte_at(&values, k)
-}
-
-// The values found.
-fn seen_of(q: Found) -> [u64; 4]
-    ensures { λ r. ⌜ Lanes (laneOf (q .seen)) r ⌝ }
-{
-    let seen = q.seen;
-    seen
-}
-
-// The search of the values of the item that is asked about, or of any.
-fn item_values(rules: Rules, helpers: [u64; 4], q: Question) -> Found
-    ensures { λ r. ⌜ r ≡ itemFound rules (laneOf helpers) q ⌝ }
-{
-    if q.itemkind == Question::ITEM {
-        return one_item(
-            rules,
-            helpers,
-            q.item,
-            value_of(rules.items, q.item as usize),
-        );
-    }
-    any_item(rules, helpers)
-}
-
-// The search of the values of the session that is asked about, or none.
-fn session_values(rules: Rules, q: Question) -> Found
-    ensures { λ r. ⌜ r ≡ sessionFound rules q ⌝ }
-{
-    if q.whokind == Question::SESSION {
-        let k = q.who as usize;
-        return own_values(
-            rules,
-            owner_of(rules.sessions, k),
-            held_of(rules.sessions, k),
-        );
-    }
-    nothing()
-}
-
-// The values that the session or sessions that are asked about can have.
-fn who_values(users: [Found; 16], helpers: [u64; 4], own: Found, q: Question) -> [u64; 4]
-    ensures { λ r. ⌜ Lanes (whoFound users (laneOf helpers) own q) r ⌝ }
-{
-    if q.whokind == Question::SESSION {
-        return seen_of(own);
-    }
-    if q.whokind == Question::USER {
-        if q.who < 16 {
-            let found = users[q.who as usize];
-            return seen_of(found);
-        }
-        return lanes::none();
-    }
-    helpers
-}
-
-// The owner of the session that is asked about, or the user.
-fn aim_owner(rules: Rules, q: Question) -> u8
-    ensures { λ r. ⌜ r ≡ cond (eqb (q .whokind) 0) (getD (rules .sessions .users) (q .who) 0) (q .who) ⌝ }
-{
-    if q.whokind == Question::SESSION {
-        return owner_of(rules.sessions, q.who as usize);
-    }
-    q.who
-}
-
-// What the leak aims at.
-fn aim_of(rules: Rules, q: Question, value: usize) -> Aim
-    ensures { λ r. ⌜ r ≡ aimOf rules q value ⌝ }
-{
-    let owner = aim_owner(rules, q);
-    Aim {
-        whokind: q.whokind,
-        session: q.who as u64,
-        owner,
-        value: (value % 256) as u8,
-        items: rules.items.count as u64,
-        permission: q.permission,
-    }
-}
-
-// The user that is asked about, or 255 where none is.
-fn asked_user(q: Question) -> u8 {
-    if q.whokind == Question::USER {
-        q.who
-    } else {
-        255
-    }
-}
-
 // Decides a question that is good, of rules whose starting sessions could have been brought about.
 fn decide(rules: Rules, users: [Found; 16], q: Question, rows: &mut [u64]) -> Answer
     requires { ⌜ ((u : ℕ) → u < 16 → userFound users u .len ≤ 256) ⌝ }
     ensures { λ r. ⌜ DecidedBy rules users q (now (rows .entry)) (now (rows .exit)) r ⌝ }
 {
-    let asked = asked_user(q);
+    let asked = about::asked_user(q);
     let helpers = users::helpers(users);
-    let items = item_values(rules, helpers, q);
-    let own = session_values(rules, q);
-    let who = who_values(users, helpers, own, q);
+    let items = about::item_values(rules, helpers, q);
+    let own = about::session_values(rules, q);
+    let who = about::who_values(users, helpers, own, q);
     let pairs = users::count_pairs(users);
     let values = items.len;
     let place = hit::hit_place(rules, q.permission, who, items);
@@ -231,7 +108,7 @@ fn decide(rules: Rules, users: [Found; 16], q: Question, rows: &mut [u64]) -> An
         items,
         place,
         own,
-        aim_of(rules, q, value),
+        about::aim_of(rules, q, value),
     );
     Answer {
         verdict: Verdict::Leak,

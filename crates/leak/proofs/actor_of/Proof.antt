@@ -2,7 +2,7 @@
 use mathlib.Core.Path.{ap, _∙_}
 use Prim.Native.Nat.{ℕ, _-_}
 use Rattle.leak.specs.Writing.{writingOf}
-use Rattle.leak.proofs.Laws.{actor-session, actor-other}
+use Rattle.leak.proofs.Parts.{actor-session, actor-other}
 use borrow.Author.Needs.{needs}
 use Rattle.leak.proofs.actor_of.Statement.{statement}
 use Rattle.leak.proofs.actor_of.Tie as tie

@@ -6,7 +6,8 @@ use lib.ListN.{length}
 use Rattle.search.specs.Searched.{depthAt}
 use Rattle.leak.specs.Writing.{writingOf, Wrote}
 use Rattle.leak.specs.Leak.{itemTo}
-use Rattle.leak.proofs.Laws.{item-none, item-goes, item-few, kept, kept-on}
+use Rattle.leak.proofs.Laws.{kept, kept-on}
+use Rattle.leak.proofs.Parts.{item-none, item-goes, item-few}
 use borrow.Author.Needs.{needs}
 use Rattle.leak.proofs.bring_item.Statement.{statement}
 use Rattle.leak.proofs.bring_item.Tie as tie

@@ -2,7 +2,7 @@
 use mathlib.Core.Path.{ap, _∙_}
 use native.Mathlib.Omega.{arith}
 use Rattle.search.specs.Searched.{viaAt}
-use Rattle.leak.proofs.Laws.{item-started, item-made}
+use Rattle.leak.proofs.Parts.{item-started, item-made}
 use borrow.Author.Needs.{needs}
 use Rattle.leak.proofs.item_of.Statement.{statement}
 use Rattle.leak.proofs.item_of.Tie as tie

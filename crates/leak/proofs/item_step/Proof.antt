@@ -4,7 +4,8 @@ use native.Mathlib.Omega.{arith}
 use lib.ListN.{length}
 use Rattle.search.specs.Searched.{viaAt}
 use Rattle.leak.specs.Writing.{writingOf}
-use Rattle.leak.proofs.Laws.{turn-link, turn-make, turn-stands, kept}
+use Rattle.leak.proofs.Laws.{kept}
+use Rattle.leak.proofs.Parts.{turn-link, turn-make, turn-stands}
 use borrow.Author.Needs.{needs}
 use Rattle.leak.proofs.item_step.Statement.{statement}
 use Rattle.leak.proofs.item_step.Tie as tie

@@ -6,7 +6,8 @@ use lib.ListN.{length}
 use Rattle.search.specs.Searched.{depthAt}
 use Rattle.leak.specs.Writing.{writingOf}
 use Rattle.leak.specs.Leak.{actorReady}
-use Rattle.leak.proofs.Laws.{item-few, leak-is, kept-on}
+use Rattle.leak.proofs.Laws.{kept-on}
+use Rattle.leak.proofs.Parts.{item-few, leak-is}
 use borrow.Author.Needs.{needs}
 use Rattle.leak.proofs.write_leak.Statement.{statement}
 use Rattle.leak.proofs.write_leak.Tie as tie

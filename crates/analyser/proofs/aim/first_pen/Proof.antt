@@ -5,7 +5,7 @@ use mathlib.Core.Logic.{⊎-elim}
 use Prim.Native.Nat.{ℕ, _+_, _-_, _≤_, _<_}
 use native.Mathlib.Omega.{arith}
 use lib.ListN.{set}
-use Rattle.analyser.proofs.Laws.{Standing, standing-none, standing-stays, standing-more, pen-ready}
+use Rattle.analyser.proofs.Starts.{Standing, standing-none, standing-stays, standing-more, pen-ready}
 use borrow.Author.Needs.{needs}
 use Rattle.analyser.proofs.aim.first_pen.Statement.{statement}
 use Rattle.analyser.proofs.aim.first_pen.Tie as tie

@@ -10,7 +10,7 @@ use lib.Dec.{ltb}
 use Rattle.lanes.specs.Lanes.{laneOf}
 use Rattle.policy.specs.Rules.{policyOf}
 use Rattle.allowed.specs.Allowed.{modelOf}
-use Rattle.analyser.proofs.Laws.{hit, hit-is}
+use Rattle.analyser.proofs.Questions.{hit, hit-is}
 use Rattle.analyser.specs.Found.{hitValue}
 use borrow.Author.Needs.{needs}
 use Rattle.analyser.proofs.hit.hit_place.Statement.{statement}

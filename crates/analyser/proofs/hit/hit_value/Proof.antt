@@ -5,7 +5,7 @@ use lib.ListN.{getD}
 use Rattle.lanes.specs.Lanes.{Lanes}
 use Rattle.policy.specs.Rules.{policyOf}
 use Rattle.allowed.specs.Allowed.{modelOf}
-use Rattle.analyser.proofs.Laws.{hit-lowest}
+use Rattle.analyser.proofs.Questions.{hit-lowest}
 use Rattle.runs.specs.Edge.{accesses}
 use borrow.Author.Needs.{needs}
 use Rattle.analyser.proofs.hit.hit_value.Statement.{statement}

@@ -10,7 +10,8 @@ use Rattle.lanes.specs.Lanes.{laneOf}
 use Rattle.policy.specs.Rules.{sessionsOf}
 use Rattle.search.specs.Queue.{nothing}
 use Rattle.search.specs.declared.queue.Found.{Found}
-use Rattle.analyser.proofs.Laws.{getD-any, session-at, found-all, found-not, brought, brought-none}
+use Rattle.analyser.proofs.Laws.{getD-any}
+use Rattle.analyser.proofs.Starts.{session-at, found-all, found-not, brought, brought-none}
 use Rattle.policy.specs.Policy.{Session}
 use Rattle.policy.proofs.Laws.{sessions-length}
 use Rattle.analyser.specs.Found.{userFound}

@@ -3,7 +3,8 @@ use native.Mathlib.Omega.{arith}
 use lib.ListN.{length}
 use Rattle.leak.specs.Writing.{writingOf}
 use Rattle.leak.specs.Way.{wayRows}
-use Rattle.leak.proofs.Laws.{after-way, brought-is, kept-at}
+use Rattle.leak.proofs.Laws.{after-way, kept-at}
+use Rattle.leak.proofs.Parts.{brought-is}
 use borrow.Author.Needs.{needs}
 use Rattle.leak.proofs.way.bring.Statement.{statement}
 use Rattle.leak.proofs.way.bring.Tie as tie

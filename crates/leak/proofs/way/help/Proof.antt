@@ -2,7 +2,8 @@
 use mathlib.Core.Path.{sym, _∙_}
 use lib.ListN.{length}
 use Rattle.leak.specs.Writing.{writingOf}
-use Rattle.leak.proofs.Laws.{help-stands, help-new, kept}
+use Rattle.leak.proofs.Laws.{kept}
+use Rattle.leak.proofs.Parts.{help-stands, help-new}
 use borrow.Author.Needs.{needs}
 use Rattle.leak.proofs.way.help.Statement.{statement}
 use Rattle.leak.proofs.way.help.Tie as tie

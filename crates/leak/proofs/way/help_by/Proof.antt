@@ -2,7 +2,8 @@
 use mathlib.Core.Path.{sym, _∙_}
 use lib.ListN.{length}
 use Rattle.leak.specs.Writing.{writingOf}
-use Rattle.leak.proofs.Laws.{by-stands, by-new, by-other, kept}
+use Rattle.leak.proofs.Laws.{kept}
+use Rattle.leak.proofs.Parts.{by-stands, by-new, by-other}
 use borrow.Author.Needs.{needs}
 use Rattle.leak.proofs.way.help_by.Statement.{statement}
 use Rattle.leak.proofs.way.help_by.Tie as tie

@@ -3,11 +3,11 @@ use mathlib.Core.Path.{ap, _∙_}
 use Rattle.lanes.specs.Lanes.{laneOf}
 use Rattle.policy.specs.Rules.{policyOf}
 use Rattle.allowed.specs.Allowed.{modelOf}
-use Rattle.analyser.proofs.Laws.{item-one, item-any}
+use Rattle.analyser.proofs.Questions.{item-one, item-any}
 use Rattle.search.specs.Items.{oneFound}
 use borrow.Author.Needs.{needs}
-use Rattle.analyser.proofs.item_values.Statement.{statement}
-use Rattle.analyser.proofs.item_values.Tie as tie
+use Rattle.analyser.proofs.about.item_values.Statement.{statement}
+use Rattle.analyser.proofs.about.item_values.Tie as tie
 
 cast-value-of : tie.Need-cast-value-of
 cast-value-of c = search needs

@@ -5,8 +5,8 @@ use borrow.Author.Tests.{eq-eqb, ne-eqb}
 use lib.Dec.{eqb}
 use lib.ListN.{getD}
 use borrow.Author.Needs.{needs}
-use Rattle.analyser.proofs.aim_owner.Statement.{statement}
-use Rattle.analyser.proofs.aim_owner.Tie as tie
+use Rattle.analyser.proofs.about.aim_owner.Statement.{statement}
+use Rattle.analyser.proofs.about.aim_owner.Tie as tie
 
 cast-owner-of : tie.Need-cast-owner-of
 cast-owner-of c = search needs

@@ -5,11 +5,12 @@ use lib.ListN.{length}
 use Rattle.lanes.specs.Lanes.{laneOf}
 use Rattle.search.specs.Queue.{nothing}
 use Rattle.search.specs.declared.queue.Found.{Found}
-use Rattle.analyser.proofs.Laws.{getD-any, who-session, who-user, who-no-user, who-any}
+use Rattle.analyser.proofs.Laws.{getD-any}
+use Rattle.analyser.proofs.Questions.{who-session, who-user, who-no-user, who-any}
 use Rattle.lanes.proofs.Laws.{lanes-as, lanes-own}
 use borrow.Author.Needs.{needs}
-use Rattle.analyser.proofs.who_values.Statement.{statement}
-use Rattle.analyser.proofs.who_values.Tie as tie
+use Rattle.analyser.proofs.about.who_values.Statement.{statement}
+use Rattle.analyser.proofs.about.who_values.Tie as tie
 
 seen-of-requires : tie.Need-seen-of-requires
 seen-of-requires c κs = search needs

@@ -3,11 +3,11 @@ use mathlib.Core.Path.{ap₂, _∙_}
 use Rattle.policy.specs.Rules.{policyOf}
 use Rattle.allowed.specs.Allowed.{modelOf}
 use Rattle.search.specs.Queue.{nothing}
-use Rattle.analyser.proofs.Laws.{session-own, session-none}
+use Rattle.analyser.proofs.Questions.{session-own, session-none}
 use Rattle.search.specs.Sessions.{ownFound}
 use borrow.Author.Needs.{needs}
-use Rattle.analyser.proofs.session_values.Statement.{statement}
-use Rattle.analyser.proofs.session_values.Tie as tie
+use Rattle.analyser.proofs.about.session_values.Statement.{statement}
+use Rattle.analyser.proofs.about.session_values.Tie as tie
 
 cast-k : tie.Need-cast-k
 cast-k c = search needs

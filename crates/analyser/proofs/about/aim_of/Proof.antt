@@ -1,8 +1,8 @@
 -- `analyser::aim_of` meets its contract.
-use Rattle.analyser.proofs.Laws.{aim-is}
+use Rattle.analyser.proofs.Questions.{aim-is}
 use borrow.Author.Needs.{needs}
-use Rattle.analyser.proofs.aim_of.Statement.{statement}
-use Rattle.analyser.proofs.aim_of.Tie as tie
+use Rattle.analyser.proofs.about.aim_of.Statement.{statement}
+use Rattle.analyser.proofs.about.aim_of.Tie as tie
 
 aim-owner-requires : tie.Need-aim-owner-requires
 aim-owner-requires c κs = search needs

@@ -21,20 +21,22 @@ mod word;
 use formulas::Holders;
 use formulas::fields_of;
 use formulas::operands_of;
-use listed::listed_word;
+use listed::values_word;
 use policy::Class;
 use policy::Classes;
+use policy::shape::class_width;
 use word::planes_of;
 
 // The values that a holder of the class can have.
 pub fn values_of(class: Class) -> [u64; 4]
     ensures { λ r. ⌜ Lanes (listedIn (attrsOf class)) r ⌝ }
 {
+    let n = class_width(class);
     [
-        listed_word(class, 0),
-        listed_word(class, 1),
-        listed_word(class, 2),
-        listed_word(class, 3),
+        values_word(class, n, 0),
+        values_word(class, n, 1),
+        values_word(class, n, 2),
+        values_word(class, n, 3),
     ]
 }
 

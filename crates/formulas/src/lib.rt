@@ -8,7 +8,7 @@ ghost use Rattle.formulas.specs.Value.{operand, sizeOfOperand, shiftIn, 
 ghost use Rattle.formulas.specs.Parts.{Said};
 
 pub mod node;
-mod table;
+pub mod table;
 
 use policy::Class;
 use policy::Classes;

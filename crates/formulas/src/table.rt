@@ -76,7 +76,7 @@ fn fill(values: &mut [u8], sizes: &mut [u8], g: usize, h: usize, class: Class, v
 }
 
 // The least of n and 8.
-fn byte_of(n: usize) -> u8
+pub fn byte_of(n: usize) -> u8
     ensures { λ r. ⌜ r ≡ min n 8 ⌝ }
 {
     if n < 8 { n as u8 } else { 8 }

@@ -81,3 +81,11 @@ in-whole l v h = go (decLt v (2 ^ width l)) (inLists l v) refl ∙ sym (listed-i
         ap (λ (t : Bool). t && inLists l (v % 2 ^ width l))
         (ne-eqb (v / 2 ^ width l) 0 (λ z. d (omega (arith, split v (width l), mod-lt v (pow-pos (width l)), ap (λ (q : ℕ). q * 2 ^ width l) z))))
         ∙ sym e
+
+-- a number wider than the class is no value of it
+pub in-wider : (l : List Attr) (v : ℕ) → v < 256 → 2 ^ width l ≤ v → listed l v ≡ false
+in-wider l v h d = listed-in l v h ∙ go (inLists l v) refl
+  where
+    go : (b : Bool) → inLists l v ≡ b → inLists l v ≡ false
+    go true e = absurd (omega (arith, in-narrow l v e))
+    go false e = e

@@ -21,20 +21,22 @@ mod word;
 use formulas::Holders;
 use formulas::fields_of;
 use formulas::operands_of;
-use listed::listed_word;
+use listed::values_word;
 use policy::Class;
 use policy::Classes;
+use policy::shape::class_width;
 use word::planes_of;
 
 // The values that a holder of the class can have.
 pub fn values_of(class: Class) -> [u64; 4]
     ensures { λ r. ⌜ Lanes (listedIn (attrsOf class)) r ⌝ }
 {
+    let n = class_width(class);
     [
-        listed_word(class, 0),
-        listed_word(class, 1),
-        listed_word(class, 2),
-        listed_word(class, 3),
+        values_word(class, n, 0),
+        values_word(class, n, 1),
+        values_word(class, n, 2),
+        values_word(class, n, 3),
     ]
 }
 
@@ -100,6 +102,26 @@ fn asked<'a, 'b>(
     among & node::word(&planes, values, sizes, shifts, bits, nodes, f, n)
 }
 
+// Of the values that are asked about, those of which formula f is true where the tables give the operands: word by word.
+fn each_word<'a, 'b>(
+    values: &'a [u8; 256],
+    sizes: &'a [u8; 256],
+    shifts: &'b [u8; 256],
+    bits: &'b [u8; 256],
+    nodes: &[u32],
+    f: usize,
+    n: u8,
+    among: [u64; 4],
+) -> [u64; 4]
+    ensures { λ r. ⌜ ((c : Lists) (h : Holders) (at : ℕ) → Operands c h at (now (values .entry)) (now (sizes .entry)) (now (shifts .entry)) (now (bits .entry)) → Lanes (λ v. (laneOf among v && holds c (withValue h at v) (nodesOf (now (nodes .entry)) f n))) r) ⌝ }
+{
+    let mut r: [u64; 4] = [0; 4];
+    for w in 0..4 {
+        r[w] = asked(values, sizes, shifts, bits, nodes, f, n, among[w], w);
+    }
+    r
+}
+
 // Of the values that are asked about, those of which formula f is true where they are put in at the place `at`, its n nodes standing among the lent
 // ones as in rules.
 pub fn held_by(
@@ -116,49 +138,5 @@ pub fn held_by(
     let o = operands_of(classes, with_value(holders, at, 0));
     let h = put_at(at);
     let l = fields_of(class_of(classes, h), h);
-    let a = asked(
-        &o.values,
-        &o.sizes,
-        &l.shifts,
-        &l.bits,
-        nodes,
-        f,
-        n,
-        among[0],
-        0,
-    );
-    let b = asked(
-        &o.values,
-        &o.sizes,
-        &l.shifts,
-        &l.bits,
-        nodes,
-        f,
-        n,
-        among[1],
-        1,
-    );
-    let c = asked(
-        &o.values,
-        &o.sizes,
-        &l.shifts,
-        &l.bits,
-        nodes,
-        f,
-        n,
-        among[2],
-        2,
-    );
-    let d = asked(
-        &o.values,
-        &o.sizes,
-        &l.shifts,
-        &l.bits,
-        nodes,
-        f,
-        n,
-        among[3],
-        3,
-    );
-    [a, b, c, d]
+    each_word(&o.values, &o.sizes, &l.shifts, &l.bits, nodes, f, n, among)
 }

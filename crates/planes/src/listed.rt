@@ -1,8 +1,8 @@
 // Which numbers of 64 lanes are values of a class.
 ghost use mathlib.Core.Path.{_≡_};
-ghost use Prim.Native.Nat.{_/_, _%_, _^_, _<_, min};
+ghost use Prim.Native.Nat.{_/_, _%_, _^_, _<_};
 ghost use lib.Dec.{ltb, eqb};
-ghost use Rattle.policy.specs.Policy.{Attr, bitsFor, codes};
+ghost use Rattle.policy.specs.Policy.{Attr, bitsFor, codes, width};
 ghost use Rattle.policy.specs.Rules.{attrsOf};
 ghost use Rattle.lists.specs.Lists.{listed};
 ghost use Rattle.planes.specs.Word.{Word, Told};
@@ -10,16 +10,10 @@ use super::operand::Operand;
 use super::operand::order;
 use super::word::at;
 use super::word::planes_of;
+use formulas::table::byte_of;
 use policy::Class;
 use policy::shape::bits_for;
 use policy::shape::byte_at;
-
-// The least of n and 8.
-fn byte_of(n: usize) -> u8
-    ensures { λ r. ⌜ r ≡ min n 8 ⌝ }
-{
-    if n < 8 { n as u8 } else { 8 }
-}
 
 // Where the bits of an attribute's value, which stand left of so many others, are a code of it.
 fn coded(planes: &[u64], kind: u8, size: u8, right: usize, own: u8) -> u64
@@ -64,7 +58,7 @@ fn narrow(planes: &[u64], n: usize) -> u64
 }
 
 // Where the number is a value of a holder of the class.
-pub(super) fn listed_word(class: Class, w: usize) -> u64
+fn listed_word(class: Class, w: usize) -> u64
     requires { ⌜ w < 4 ⌝ }
     ensures { λ r. ⌜ Word (listed (attrsOf class)) w r ⌝ }
 {
@@ -83,4 +77,18 @@ pub(super) fn listed_word(class: Class, w: usize) -> u64
         right += own as usize;
     }
     narrow(&planes, right) & r
+}
+
+// The same, by the width n of the class. A word that begins past the last number of n bits is not looked at.
+pub(super) fn values_word(class: Class, n: usize, w: usize) -> u64
+    requires { ⌜ w < 4 ⌝ }
+    requires { ⌜ n ≡ width (attrsOf class) ⌝ }
+    ensures { λ r. ⌜ Word (listed (attrsOf class)) w r ⌝ }
+{
+    if n < 8 {
+        if 1usize << n <= 64 * w {
+            return 0;
+        }
+    }
+    listed_word(class, w)
 }

@@ -1,10 +1,9 @@
 #!/usr/bin/env bash
 # The example hosts, in C and in Rust, print what examples/host.out says, which is worked out from the paper. The rows of a leak, which any that
-# replay may be, stand on lines of their own that begin with a blank, and are left out. Installs rustc where it is missing (Debian).
+# replay may be, stand on lines of their own that begin with a blank, and are left out.
 set -eu -o pipefail
 cd "$(dirname "$0")/.."
 . tests/library.bash
-command -v rustc >/dev/null || apt-get install -y rustc >/dev/null
 compile examples/host.c "$work/host_c"
 rustc --edition 2021 -O -D warnings -L target/staticlib examples/host.rs -o "$work/host_rs"
 for host in host_c host_rs; do

@@ -1,6 +1,8 @@
 # For scripts that link the library: sourced at the repository's root. Proves and builds it where that was not done since the last change, and sets
-# `work`, a folder that goes at the end, and `compile SOURCE OUT`, for C. Installs gcc where it is missing (Debian).
-command -v gcc >/dev/null || { apt-get update && apt-get install -y gcc libc6-dev; } >/dev/null
+# `work`, a folder that goes at the end, and `compile SOURCE OUT`, for C. Installs gcc and rustc where they are missing (Debian).
+. tests/tools.bash
+need gcc gcc libc6-dev
+need rustc rustc
 work=$(mktemp -d)
 trap 'rm -rf "$work"' EXIT
 archive=target/staticlib/librights_c.a

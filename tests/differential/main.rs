@@ -22,7 +22,7 @@ fn run(program: &str, inputs: u64, seed: u64, tally: &mut Tally) -> Result<(), S
         compare::input(tally, &random).map_err(|text| format!("input {k} of seed {seed}: {text}"))?;
     }
     let batch = 1000;
-    for k in 0..inputs.div_ceil(10 * batch) {
+    for k in 0..(inputs + 10 * batch - 1) / (10 * batch) {
         writing::many(tally, &Random::new(seed ^ (k << 32)), program, batch.min(inputs))?;
     }
     Ok(())
@@ -31,9 +31,12 @@ fn run(program: &str, inputs: u64, seed: u64, tally: &mut Tally) -> Result<(), S
 fn main() {
     let words: Vec<String> = std::env::args().collect();
     let number = |k: usize| words.get(k).and_then(|word| word.parse().ok());
-    let (Some(program), Some(inputs)) = (words.get(1), number(2)) else {
-        eprintln!("usage: differential RULES_CASE INPUTS [SEED]");
-        std::process::exit(2);
+    let (program, inputs) = match (words.get(1), number(2)) {
+        (Some(program), Some(inputs)) => (program, inputs),
+        _ => {
+            eprintln!("usage: differential RULES_CASE INPUTS [SEED]");
+            std::process::exit(2);
+        }
     };
     let mut tally = Tally::default();
     let result = run(program, inputs, number(3).unwrap_or(1), &mut tally);

@@ -81,7 +81,10 @@ fn spoil_head(random: &Random, raw: &mut RawRules) {
 }
 
 fn spoil_size(random: &Random, raw: &mut RawRules) -> bool {
-    let Some((class, k)) = some_attribute(random, raw) else { return false };
+    let (class, k) = match some_attribute(random, raw) {
+        Some(place) => place,
+        None => return false,
+    };
     let set = raw.classes[class].kinds[k] == 1;
     raw.classes[class].sizes[k] = *random.pick(if set { &[0, 9, 16, 31] } else { &[0, 17, 24, 31] });
     true

@@ -54,7 +54,7 @@ fn leaks(file: &[u8], question: &[u8], rows: &[u64]) -> bool {
     let carried_out = read(file).map(|rules| run(&rules, &steps).1);
     library::replay(file, question, rows, &mut a, &mut b) == 0
         && second::replay::replay(file, question, rows, &mut c, &mut d) == 0
-        && carried_out.is_ok_and(|done| done.iter().all(|step| *step))
+        && carried_out.map_or(false, |done| done.iter().all(|step| *step))
 }
 
 /// A question of the table; how the answer differs, if it does.

@@ -105,7 +105,7 @@ fn grants(rules: &Rules, state: &State, asked: &Question) -> bool {
         for target in 0..state.items.len() as u64 {
             let step = Step { kind: 6, actor, target, value: permission };
             let user = open_session(state, actor).map(|session| session.user);
-            let fits = user.is_some_and(|user| asked.fits(actor, user, target, permission));
+            let fits = user.map_or(false, |user| asked.fits(actor, user, target, permission));
             if fits && carry_out(rules, &mut state.clone(), &step) {
                 return true;
             }

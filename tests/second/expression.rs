@@ -129,7 +129,10 @@ impl<'a> Builder<'a> {
 
     /// The node of a part named before; a name that is compared with something is a constant instead.
     fn earlier_part(&self, words: &Words) -> Option<u32> {
-        let Word::Name(name) = words.peek() else { return None };
+        let name = match words.peek() {
+            Word::Name(name) => name,
+            _ => return None,
+        };
         let compared = match words.peek_second() {
             Word::Mark(mark) => ["=", "<", "<="].contains(mark),
             Word::Name(word) => ["in", "subset", "proper"].contains(&word.as_str()),
@@ -176,8 +179,9 @@ impl<'a> Builder<'a> {
             words.take();
             return Ok(Side::Number(number));
         }
-        let Some(holder) = holder(words)? else {
-            return Ok(Side::Name(words.name()?));
+        let holder = match holder(words)? {
+            Some(holder) => holder,
+            None => return Ok(Side::Name(words.name()?)),
         };
         if !holders_of(self.formula).contains(&holder) {
             return Err((line, format!("`{}` cannot be used in this formula", HOLDERS[holder as usize])));

@@ -148,8 +148,9 @@ fn value(words: &mut Words, names: &Names, class: usize) -> Result<u8, Bad> {
     while more {
         let line = words.line();
         let name = words.name()?;
-        let Some(place) = attributes.iter().position(|named| named.name == name) else {
-            return Err((line, format!("a {} has no attribute `{name}`", CLASSES[class])));
+        let place = match attributes.iter().position(|named| named.name == name) {
+            Some(place) => place,
+            None => return Err((line, format!("a {} has no attribute `{name}`", CLASSES[class]))),
         };
         if values[place].is_some() {
             return Err((line, format!("`{name}` is given twice")));
@@ -183,8 +184,9 @@ pub fn session(words: &mut Words, names: &Names, raw: &mut RawRules) -> Result<(
     let line = words.line();
     words.expect("of")?;
     let name = words.name()?;
-    let Some(owner) = names.users.iter().position(|user| *user == name) else {
-        return Err((line, format!("there is no user `{name}` so far")));
+    let owner = match names.users.iter().position(|user| *user == name) {
+        Some(owner) => owner,
+        None => return Err((line, format!("there is no user `{name}` so far"))),
     };
     if raw.sessions.count == STARTING {
         return Err((line, "a file holds at most 32 starting sessions".to_string()));

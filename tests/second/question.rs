@@ -24,7 +24,10 @@ pub struct Question {
 
 /// The question of these bytes; 10 if it names what is absent or breaks its layout.
 pub fn question(rules: &Rules, bytes: &[u8]) -> Result<Question, u32> {
-    let &[first, second, third] = bytes else { return Err(10) };
+    let (first, second, third) = match *bytes {
+        [first, second, third] => (first, second, third),
+        _ => return Err(10),
+    };
     let who_number = u32::from(first % 64);
     let who = match first / 64 {
         0 if (who_number as usize) < rules.sessions.len() => Who::StartingSession(who_number),

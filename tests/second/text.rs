@@ -68,8 +68,9 @@ impl Assembler {
         if self.words.take_if("permission") {
             return permission(&mut self.words, &mut self.names, &mut self.raw);
         }
-        let Some(class) = self.class() else {
-            return self.formula();
+        let class = match self.class() {
+            Some(class) => class,
+            None => return self.formula(),
         };
         if self.words.take_if("attribute") {
             return attribute(&mut self.words, &mut self.names, &mut self.raw, class);

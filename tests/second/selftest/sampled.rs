@@ -155,7 +155,10 @@ fn leaks_replay(checks: &mut Checks, count: u32) {
         let (bytes, asked) = (file_of(&raw).unwrap(), question(&mut random, &raw));
         let (said, steps) = (analyse(&bytes, &asked, 8192), leak(&bytes, &asked, 8192));
         checks.same("a leak has steps", steps.is_some(), said.verdict == Verdict::Leak);
-        let Some(steps) = steps else { continue };
+        let steps = match steps {
+            Some(steps) => steps,
+            None => continue,
+        };
         let rules = read(&bytes).unwrap();
         checks.holds("every step is carried out", run(&rules, &steps).1.into_iter().all(|done| done));
         let rows: Vec<u64> = steps.iter().map(|step| row_of(step.kind, step.actor, step.target, step.value)).collect();

@@ -83,7 +83,7 @@ fn values_at(s: &[u8], at: usize) -> Values
 }
 
 // The rules of a record.
-pub fn rules_of(s: &[u8]) -> Rules {
+pub(super) fn rules_of(s: &[u8]) -> Rules {
     let classes = Classes {
         user: class_at(s, 0),
         session: class_at(s, 17),

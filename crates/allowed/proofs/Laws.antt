@@ -48,19 +48,19 @@ module _ (r : Rules) (f : ℕ) (h : Holders) where
       ap (holds (listsOf (r .classes)) h)
       (List·getD-eq-default (formulasOf (r .nodes) (r .lengths) (4 + r .permissions)) [] {n = f} (omega (arith, formulas-length (r .nodes) (r .lengths) (4 + r .permissions))))
 
--- what is swept: no value where there is no such formula, and otherwise those values of the class that formula f, by its nodes, is true of
-module _ (r : Rules) (f at : ℕ) (h : Holders) (x : List ℕ) where
-  pub swept-none : 4 + r .permissions ≤ f → Lanes (λ v. false) x → Lanes (swept (policyOf r) f at h) x
-  unfolding swept policyOf
+-- what is swept: no value where there is no such formula, and otherwise those asked about that formula f, by its nodes, is true of
+module _ (r : Rules) (f at : ℕ) (h : Holders) (among : ℕ → Bool) (x : List ℕ) where
+  pub swept-none : 4 + r .permissions ≤ f → Lanes (λ v. false) x → Lanes (swept (policyOf r) f at h among) x
+  unfolding swept
   swept-none l e =
-      lanes-as (λ v. false) (swept (policyOf r) f at h) x e
-      (λ v m. sym (ap (λ (t : Bool). listed (ofHolder (listsOf (r .classes)) at) v && t) (says-none r f (withValue h at v) l) ∙ and-false (listed (ofHolder (listsOf (r .classes)) at) v)))
+      lanes-as (λ v. false) (swept (policyOf r) f at h among) x e
+      (λ v m. sym (ap (λ (t : Bool). among v && t) (says-none r f (withValue h at v) l) ∙ and-false (among v)))
 
-  pub swept-held : (c : Class) (n : ℕ) (among : List ℕ) → f < 4 + r .permissions → n ≡ getD (r .lengths) f 0 → attrsOf c ≡ ofHolder (listsOf (r .classes)) at → Lanes (listed (attrsOf c)) among
-      → Lanes (λ v. (laneOf among v && holds (listsOf (r .classes)) (withValue h at v) (nodesOf (r .nodes) f n))) x → Lanes (swept (policyOf r) f at h) x
-  unfolding swept policyOf
-  swept-held c n among l e of a k =
-      lanes-as _ (swept (policyOf r) f at h) x k
+  pub swept-held : (n : ℕ) → f < 4 + r .permissions → n ≡ getD (r .lengths) f 0
+      → Lanes (λ v. (among v && holds (listsOf (r .classes)) (withValue h at v) (nodesOf (r .nodes) f n))) x → Lanes (swept (policyOf r) f at h among) x
+  unfolding swept
+  swept-held n l e k =
+      lanes-as _ (swept (policyOf r) f at h among) x k
       (λ v m.
-      ap₂ _&&_ (a .each v m ∙ ap (λ (o : List Attr). listed o v) of)
+      ap (λ (t : Bool). among v && t)
       (ap (λ (z : ℕ). holds (listsOf (r .classes)) (withValue h at v) (nodesOf (r .nodes) f z)) e ∙ sym (says-at r f (withValue h at v) l)))

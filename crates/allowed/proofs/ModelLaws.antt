@@ -11,6 +11,8 @@ use Rattle.policy.proofs.Laws.{values-length}
 use Rattle.lists.specs.Lists.{listed}
 use Rattle.lists.proofs.Laws.{listed-byte}
 use Rattle.allowed.specs.Allowed.{says, opening, changing, making, modifying, accessing, userValue, modelOf}
+use Rattle.allowed.specs.Basis.{BasisOf, modelBy, InLists}
+use Rattle.allowed.specs.declared.Basis.{Basis}
 
 module _ (r : Rules) where
   pub model-users : modelOf (policyOf r) .users ≡ r .users .count
@@ -68,3 +70,16 @@ module _ (p : Policy) where
   pub model-item-byte : (o : ℕ) → modelOf p .itemValue o ≡ true → o < 256
   unfolding modelOf
   model-item-byte o = listed-byte (p .lists .ofItem) o
+
+-- what rules allow is what their basis and nodes do
+module _ (r : Rules) (b : Basis) (B : BasisOf r b) where
+  pub basis-model : modelBy b (r .nodes) ≡ modelOf (policyOf r)
+  unfolding modelOf says userValue policyOf
+  basis-model = rw (B .classes, B .users, B .permissions, B .lengths) refl
+
+  pub basis-lists : InLists b (r .nodes)
+  basis-lists =
+      record {
+        sessions = rw basis-model (B .sessions);
+        items = rw basis-model (B .items);
+      }

@@ -3,9 +3,10 @@
 ghost use mathlib.Core.Path.{_≡_};
 ghost use mathlib.Core.Bool.{_&&_};
 ghost use Prim.Native.Nat.{ℕ};
-ghost use Rattle.lanes.specs.Lanes.{Lanes};
+ghost use lib.Dec.{ltb};
+ghost use Rattle.lanes.specs.Lanes.{laneOf, Lanes};
 ghost use Rattle.policy.specs.Rules.{policyOf, valuesOf};
-ghost use Rattle.runs.specs.Edge.{opensWith, changesTo, makesWith, modifiesTo, accesses};
+ghost use Rattle.runs.specs.Edge.{accesses};
 ghost use lib.ListN.{getD};
 ghost use Rattle.allowed.specs.Allowed.{
   modelOf,
@@ -15,16 +16,47 @@ ghost use Rattle.allowed.specs.Allowed.{
   modifying as modifyingOf,
   accessing as accessingOf,
 };
+ghost use Rattle.allowed.specs.Basis.{BasisOf, modelBy};
 
 mod formula;
 
 use formula::says;
 use formula::sweep;
 use formulas::Holders;
-use lists::listed;
+use policy::Classes;
 use policy::Rules;
 use policy::Values;
 use policy::shape::byte_at;
+
+// What formulas are asked by, but for their nodes, which are lent beside it: the lists, the users' values, how many permissions there are, how many
+// nodes each formula has, and as sets the values in the lists of sessions and of items.
+pub struct Basis {
+    pub classes: Classes,
+    pub users: Values,
+    pub permissions: u8,
+    pub lengths: [u8; 12],
+    pub sessions: [u64; 4],
+    pub items: [u64; 4],
+}
+
+// What the formulas of the rules are asked by.
+pub fn basis_of(rules: Rules) -> Basis
+    ensures { λ r. ⌜ BasisOf rules r ⌝ }
+{
+    let classes = rules.classes;
+    let users = rules.users;
+    let lengths = rules.lengths;
+    let sessions = planes::values_of(classes.session);
+    let items = planes::values_of(classes.item);
+    Basis {
+        classes,
+        users,
+        permissions: rules.permissions,
+        lengths,
+        sessions,
+        items,
+    }
+}
 
 // The holders of each formula: those that it can't look at have value 0.
 fn opening(user: u8, new: u8) -> Holders
@@ -98,20 +130,6 @@ fn user_value(users: Values, u: u8) -> u8
     byte_at(&values, u as usize)
 }
 
-// The values in the lists of sessions.
-pub fn session_values(rules: Rules) -> [u64; 4]
-    ensures { λ r. ⌜ Lanes (modelOf (policyOf rules) .sessionValue) r ⌝ }
-{
-    planes::values_of(rules.classes.session)
-}
-
-// The values in the lists of items.
-pub fn item_values(rules: Rules) -> [u64; 4]
-    ensures { λ r. ⌜ Lanes (modelOf (policyOf rules) .itemValue) r ⌝ }
-{
-    planes::values_of(rules.classes.item)
-}
-
 // Whether the formula lets user u open a session with value v.
 pub fn may_open(rules: Rules, u: u8, v: u8) -> bool
     ensures { λ r. ⌜ r ≡ modelOf (policyOf rules) .mayOpen u v ⌝ }
@@ -147,56 +165,50 @@ pub fn may_access(rules: Rules, p: u8, v: u8, o: u8) -> bool
     says(rules, 4 + p as usize, accessing(v, o))
 }
 
-// The values that user u may open a session with.
-pub fn opened_with(rules: Rules, u: u8) -> [u64; 4]
-    ensures { λ r. ⌜ Lanes (opensWith (modelOf (policyOf rules)) u) r ⌝ }
+// Of the values that are asked about, those that user u may open a session with.
+pub fn opened_with(basis: Basis, nodes: &[u32], u: u8, among: [u64; 4]) -> [u64; 4]
+    ensures { λ r. ⌜ Lanes (λ (v : ℕ). (laneOf among v && (ltb u (modelBy basis (now (nodes .entry)) .users) && modelBy basis (now (nodes .entry)) .mayOpen u v))) r ⌝ }
 {
-    if rules.users.count <= u {
+    if basis.users.count <= u {
         return lanes::none();
     }
-    sweep(rules, 0, 2, opening(user_value(rules.users, u), 0))
+    sweep(basis, nodes, 0, 2, opening(user_value(basis.users, u), 0), among)
 }
 
-// The values that user u may change a session with value v to.
-pub fn changed_to(rules: Rules, u: u8, v: u8) -> [u64; 4]
-    ensures { λ r. ⌜ Lanes (changesTo (modelOf (policyOf rules)) u v) r ⌝ }
+// Of the values that are asked about, those that user u may change a session with value v to.
+pub fn changed_to(basis: Basis, nodes: &[u32], u: u8, v: u8, among: [u64; 4]) -> [u64; 4]
+    ensures { λ r. ⌜ Lanes (λ (w : ℕ). (laneOf among w && modelBy basis (now (nodes .entry)) .mayChange u v w)) r ⌝ }
 {
-    sweep(rules, 1, 2, changing(user_value(rules.users, u), v, 0))
+    sweep(basis, nodes, 1, 2, changing(user_value(basis.users, u), v, 0), among)
 }
 
-// The session values that may make an item with value o.
-pub fn makers(rules: Rules, o: u8) -> [u64; 4]
-    ensures { λ r. ⌜ Lanes (λ (v : ℕ). (modelOf (policyOf rules) .sessionValue v && makesWith (modelOf (policyOf rules)) v o)) r ⌝ }
+// Of the session values that are asked about, those that may make an item with value o.
+pub fn makers(basis: Basis, nodes: &[u32], o: u8, among: [u64; 4]) -> [u64; 4]
+    ensures { λ r. ⌜ Lanes (λ (v : ℕ). (laneOf among v && modelBy basis (now (nodes .entry)) .mayMake v o)) r ⌝ }
 {
-    if !listed(rules.classes.item, o as u64) {
+    sweep(basis, nodes, 2, 1, making(0, o), among)
+}
+
+// Of the session values that are asked about, those that may change an item from value o to value n.
+pub fn modifiers(basis: Basis, nodes: &[u32], o: u8, n: u8, among: [u64; 4]) -> [u64; 4]
+    ensures { λ r. ⌜ Lanes (λ (v : ℕ). (laneOf among v && modelBy basis (now (nodes .entry)) .mayModify v o n)) r ⌝ }
+{
+    sweep(basis, nodes, 3, 1, modifying(0, o, n), among)
+}
+
+// Of the values that are asked about, those that a session with value v may change an item with value o to.
+pub fn modified_to(basis: Basis, nodes: &[u32], v: u8, o: u8, among: [u64; 4]) -> [u64; 4]
+    ensures { λ r. ⌜ Lanes (λ (n : ℕ). (laneOf among n && modelBy basis (now (nodes .entry)) .mayModify v o n)) r ⌝ }
+{
+    sweep(basis, nodes, 3, 4, modifying(v, o, 0), among)
+}
+
+// Of the session values that are asked about, those that have permission p on an item with value o.
+pub fn accessors(basis: Basis, nodes: &[u32], p: u8, o: u8, among: [u64; 4]) -> [u64; 4]
+    ensures { λ r. ⌜ Lanes (λ (v : ℕ). (laneOf among v && accesses (modelBy basis (now (nodes .entry))) p v o)) r ⌝ }
+{
+    if basis.permissions <= p {
         return lanes::none();
     }
-    sweep(rules, 2, 1, making(0, o))
-}
-
-// The session values that may change an item from value o to value n.
-pub fn modifiers(rules: Rules, o: u8, n: u8) -> [u64; 4]
-    ensures { λ r. ⌜ Lanes (λ (v : ℕ). (modelOf (policyOf rules) .sessionValue v && modifiesTo (modelOf (policyOf rules)) v o n)) r ⌝ }
-{
-    if !listed(rules.classes.item, n as u64) {
-        return lanes::none();
-    }
-    sweep(rules, 3, 1, modifying(0, o, n))
-}
-
-// The values that a session with value v may change an item with value o to.
-pub fn modified_to(rules: Rules, v: u8, o: u8) -> [u64; 4]
-    ensures { λ r. ⌜ Lanes (modifiesTo (modelOf (policyOf rules)) v o) r ⌝ }
-{
-    sweep(rules, 3, 4, modifying(v, o, 0))
-}
-
-// The session values that have permission p on an item with value o.
-pub fn accessors(rules: Rules, p: u8, o: u8) -> [u64; 4]
-    ensures { λ r. ⌜ Lanes (λ (v : ℕ). (modelOf (policyOf rules) .sessionValue v && accesses (modelOf (policyOf rules)) p v o)) r ⌝ }
-{
-    if rules.permissions <= p {
-        return lanes::none();
-    }
-    sweep(rules, 4 + p as usize, 1, accessing(0, o))
+    sweep(basis, nodes, 4 + p as usize, 1, accessing(0, o), among)
 }

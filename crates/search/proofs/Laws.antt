@@ -1,7 +1,7 @@
 -- Laws of searches as the program makes them. In order: depths, one more value, turns of loops; values not found yet, the values of a row; from one
 -- place after another, of sessions; the roots of items, and of items what is asked by item values and by session values, from one place after another.
 use mathlib.Core.Path.{_≡_, refl, sym, ap, _∙_}
-use mathlib.Core.Bool.{Bool, true, false, not, _&&_, cond}
+use mathlib.Core.Bool.{Bool, true, false, not, _&&_, cond, false≢true}
 use mathlib.Core.List.{List}
 use Prim.Native.Nat.{ℕ, zero, suc, _+_, _-_, _%_, _≤_, _<_}
 use native.Mathlib.Numerals.{add-one}
@@ -15,7 +15,7 @@ use Rattle.runs.specs.Model.{Model}
 use Rattle.runs.specs.Edge.{opensWith, changesTo, makesWith, modifiesTo}
 use Rattle.search.specs.Queue.{nothing, depthAfter, pushed, unmet, spreadTo, spread}
 use Rattle.search.specs.Sessions.{growTo, sessionsFound, ownFound}
-use Rattle.search.specs.Items.{able, lastAble, asked, offered, widened, growItems, readyOf, oneFound, startRoots, anyFound}
+use Rattle.search.specs.Items.{Had, able, lastAble, asked, offered, widened, growItems, readyOf, oneFound, startRoots, anyFound}
 use Rattle.search.specs.declared.queue.Found.{Found}
 
 module _ (q : Found) (from : ℕ) where
@@ -74,6 +74,14 @@ module _ (f : ℕ → Bool) (q : Found) where
   unfolding unmet
   unmet-is n = refl
 
+  pub unmet-listed : (n : ℕ) → unmet f q n ≡ true → f n ≡ true
+  unfolding unmet
+  unmet-listed n = left (f n) (not (laneOf (q .seen) n))
+    where
+      left : (a b : Bool) → a && b ≡ true → a ≡ true
+      left true b t = refl
+      left false b t = absurd (false≢true t)
+
   module _ (within fresh : List ℕ) (W : Lanes f within) (F : Lanes (λ (v : ℕ). laneOf within v && not (laneOf (q .seen) v)) fresh) where
     pub unmet-lanes : Lanes (unmet f q) fresh
     unfolding unmet
@@ -118,15 +126,54 @@ module _ (q : Found) (from via : ℕ) where
     unfolding spread
     spread-end = refl
 
-  spread-ext : (f g : ℕ → Bool) (n : ℕ) → ((v : ℕ) → v < n → f v ≡ g v) → spreadTo f q from via n ≡ spreadTo g q from via n
+  spread-ext : (f g : ℕ → Bool) (n : ℕ) → ((v : ℕ) → v < n → unmet f q v ≡ unmet g q v) → spreadTo f q from via n ≡ spreadTo g q from via n
   unfolding spreadTo
   spread-ext f g zero h = refl
-  spread-ext f g (suc n) h = rw (unmet-ext f g q n (h n (omega arith)), spread-ext f g n (λ v l. h v (omega arith))) refl
+  spread-ext f g (suc n) h = rw (h n (omega arith), spread-ext f g n (λ v l. h v (omega arith))) refl
 
   -- a row by its lanes
   pub spread-lanes : (f : ℕ → Bool) (row : List ℕ) → Lanes f row → spread (laneOf row) q from via ≡ spread f q from via
   unfolding spread
-  spread-lanes f row l = spread-ext (laneOf row) f 256 (l .each)
+  spread-lanes f row l = spread-ext (laneOf row) f 256 (λ v h. unmet-ext (laneOf row) f q v (l .each v h))
+
+  -- a row that was asked of the values not found yet alone
+  module _ (fresh row : List ℕ) where
+    spread-fresh : (within may : ℕ → Bool) → Lanes (unmet within q) fresh → Lanes (λ (v : ℕ). laneOf fresh v && may v) row
+        → spread (laneOf row) q from via ≡ spread (λ v. within v && may v) q from via
+    unfolding spread unmet
+    spread-fresh within may F R =
+        spread-ext (laneOf row) (λ v. within v && may v) 256
+        (λ v h.
+        ap (λ (b : Bool). b && not (laneOf (q .seen) v)) (R .each v h ∙ ap (λ (b : Bool). b && may v) (F .each v h))
+        ∙ again (within v) (not (laneOf (q .seen) v)) (may v))
+      where
+        again : (w n t : Bool) → ((w && n) && t) && n ≡ (w && t) && n
+        again true true t = refl
+        again true false true = refl
+        again true false false = refl
+        again false n t = refl
+
+    pub spread-changes : (m : Model) (u x : ℕ) → Lanes (unmet (m .sessionValue) q) fresh → Lanes (λ (w : ℕ). laneOf fresh w && m .mayChange u x w) row
+        → spread (laneOf row) q from via ≡ spread (changesTo m u x) q from via
+    unfolding changesTo
+    spread-changes m u x = spread-fresh (m .sessionValue) (m .mayChange u x)
+
+    pub spread-modifies : (m : Model) (v o : ℕ) → Lanes (unmet (m .itemValue) q) fresh → Lanes (λ (n : ℕ). laneOf fresh n && m .mayModify v o n) row
+        → spread (laneOf row) q from via ≡ spread (modifiesTo m v o) q from via
+    unfolding modifiesTo
+    spread-modifies m v o = spread-fresh (m .itemValue) (m .mayModify v o)
+
+-- the values that a user may open a session with, asked of those in the lists
+pub opens-row : (m : Model) (u : ℕ) (within row : List ℕ) → Lanes (m .sessionValue) within → Lanes (λ (v : ℕ). laneOf within v && (ltb u (m .users) && m .mayOpen u v)) row → Lanes (opensWith m u) row
+unfolding opensWith
+opens-row m u within row W R =
+    lanes-as _ _ row R (λ v h. ap (λ (b : Bool). b && (ltb u (m .users) && m .mayOpen u v)) (W .each v h) ∙ turned (m .sessionValue v) (ltb u (m .users)) (m .mayOpen u v))
+  where
+    turned : (s t p : Bool) → s && (t && p) ≡ t && s && p
+    turned true true p = refl
+    turned true false p = refl
+    turned false true p = refl
+    turned false false p = refl
 
 -- from one place after another, of sessions
 module _ (edge : ℕ → ℕ → Bool) (q : Found) where
@@ -140,15 +187,6 @@ module _ (edge : ℕ → ℕ → Bool) (q : Found) where
     unfolding growTo
     grow-turn i r b h t =
         turn (growTo within edge q) (λ x. ltb i (x .len) && someBelow (unmet within x) 256) (λ x. spread (edge (getD (x .order) i 0)) x (i + 1) 0) i refl r b h t
-
-  -- the values asked for by their lanes
-  pub grow-lanes : (f : ℕ → Bool) (within : List ℕ) → Lanes f within → (n : ℕ) → growTo (laneOf within) edge q n ≡ growTo f edge q n
-  unfolding growTo
-  grow-lanes f within l zero = refl
-  grow-lanes f within l (suc i) =
-      ap (λ (r : Found). cond (ltb i (r .len) && someBelow (unmet (laneOf within) r) 256) (spread (edge (getD (r .order) i 0)) r (i + 1) 0) r) (grow-lanes f within l i)
-      ∙ ap (λ (b : Bool). cond (ltb i (growTo f edge q i .len) && b) (spread (edge (getD (growTo f edge q i .order) i 0)) (growTo f edge q i) (i + 1) 0) (growTo f edge q i))
-      (some-ext (unmet (laneOf within) (growTo f edge q i)) (unmet f (growTo f edge q i)) 256 (λ v h. unmet-ext (laneOf within) f (growTo f edge q i) v (l .each v h)))
 
 module _ (m : Model) (u : ℕ) where
   pub sessions-are : sessionsFound m u ≡ growTo (m .sessionValue) (changesTo m u) (spread (opensWith m u) nothing 0 0) 256
@@ -173,23 +211,28 @@ module _ (values : List ℕ) (q : Found) where
       (turn (startRoots values q) (λ x. not (laneOf (x .seen) (getD values j 0))) (λ x. pushed x (getD values j 0) 0 (256 + j)) j refl r b h
       (ap (λ (k : ℕ). not (laneOf (r .seen) k)) (sym e) ∙ t))
 
--- session values that may
-module _ (m : Model) (made : Bool) (o n : ℕ) where
-  module _ (x : List ℕ) where
-    pub able-made : made ≡ true → Lanes (λ (v : ℕ). m .sessionValue v && makesWith m v n) x → Lanes (able m made o n) x
-    unfolding able
-    able-made e l = rw e l
+-- session values that may, of those that can be had
+module _ (m : Model) (made : Bool) (o n : ℕ) (ready row : List ℕ) (H : Had m ready) (listed : m .itemValue n ≡ true) where
+  -- the tests of the lists hold
+  able-listed : (v : ℕ) → v < 256 → laneOf ready v && cond made (m .mayMake v n) (m .mayModify v o n) ≡ laneOf ready v && able m made o n v
+  unfolding able makesWith modifiesTo
+  able-listed v h = go (laneOf ready v) refl
+    where
+      go : (b : Bool) → laneOf ready v ≡ b
+          → b && cond made (m .mayMake v n) (m .mayModify v o n) ≡ b && (m .sessionValue v && cond made (m .itemValue n && m .mayMake v n) (m .itemValue n && m .mayModify v o n))
+      go true e = rw (H v h e, listed) refl
+      go false e = refl
 
-    pub able-changed : made ≡ false → Lanes (λ (v : ℕ). m .sessionValue v && modifiesTo m v o n) x → Lanes (able m made o n) x
-    unfolding able
-    able-changed e l = rw e l
+  pub able-made : made ≡ true → Lanes (λ (v : ℕ). laneOf ready v && m .mayMake v n) row → Lanes (λ (v : ℕ). laneOf ready v && able m made o n v) row
+  able-made e l = lanes-as _ _ row l (λ v h. ap (λ (b : Bool). laneOf ready v && cond b (m .mayMake v n) (m .mayModify v o n)) (sym e) ∙ able-listed v h)
 
-  -- the last of those that can be had
-  pub able-last : (ready row both : List ℕ) → Lanes (able m made o n) row → Lanes (λ (v : ℕ). laneOf ready v && laneOf row v) both
-      → highestOf both ≡ lastAble m (laneOf ready) made o n
-  unfolding lastAble
-  able-last ready row both R B =
-      highest-lanes (λ v. laneOf ready v && able m made o n v) both (lanes-as _ _ both B (λ v h. ap (λ (b : Bool). laneOf ready v && b) (R .each v h)))
+  pub able-changed : made ≡ false → Lanes (λ (v : ℕ). laneOf ready v && m .mayModify v o n) row → Lanes (λ (v : ℕ). laneOf ready v && able m made o n v) row
+  able-changed e l = lanes-as _ _ row l (λ v h. ap (λ (b : Bool). laneOf ready v && cond b (m .mayMake v n) (m .mayModify v o n)) (sym e) ∙ able-listed v h)
+
+-- the last of them
+pub able-last : (m : Model) (made : Bool) (o n : ℕ) (ready row : List ℕ) → Lanes (λ (v : ℕ). laneOf ready v && able m made o n v) row → highestOf row ≡ lastAble m (laneOf ready) made o n
+unfolding lastAble
+able-last m made o n ready row R = highest-lanes (λ v. laneOf ready v && able m made o n v) row R
 
 module _ (m : Model) (ready : ℕ → Bool) (q : Found) where
   -- one item value after another
@@ -267,9 +310,17 @@ module _ (m : Model) (f g : ℕ → Bool) (e : (v : ℕ) → v < 256 → f v ≡
   items-ext q (suc i) = rw (items-ext q i, widened-ext (growItems m g q i) i) refl
 
 -- those that helpers have, in the lists
-pub ready-lanes : (m : Model) (helpers own both : List ℕ) → Lanes (m .sessionValue) own → Lanes (λ (v : ℕ). laneOf helpers v && laneOf own v) both → Lanes (readyOf m (laneOf helpers)) both
-unfolding readyOf
-ready-lanes m helpers own both S B = lanes-as _ _ both B (λ v h. ap (λ (b : Bool). laneOf helpers v && b) (S .each v h))
+module _ (m : Model) (helpers own both : List ℕ) (S : Lanes (m .sessionValue) own) (B : Lanes (λ (v : ℕ). laneOf helpers v && laneOf own v) both) where
+  pub ready-lanes : Lanes (readyOf m (laneOf helpers)) both
+  unfolding readyOf
+  ready-lanes = lanes-as _ _ both B (λ v h. ap (λ (b : Bool). laneOf helpers v && b) (S .each v h))
+
+  pub ready-had : Had m both
+  ready-had v h e = sym (S .each v h) ∙ right (laneOf helpers v) (laneOf own v) (sym (B .each v h) ∙ e)
+    where
+      right : (a b : Bool) → a && b ≡ true → b ≡ true
+      right true b t = t
+      right false b t = absurd (false≢true t)
 
 pub one-is : (m : Model) (helper : ℕ → Bool) (j held : ℕ) → oneFound m helper j held ≡ growItems m (readyOf m helper) (pushed nothing held 0 (256 + j)) 256
 unfolding oneFound

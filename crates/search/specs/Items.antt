@@ -2,9 +2,10 @@
 -- Of a start `via` says what it is: the session value that makes it, or 256 plus the number of a starting item. Of a link it is the session value.
 -- Where several session values would do, the last is taken: a helper that stands open is then used again.
 -- Assumes nothing.
+use mathlib.Core.Path.{_≡_}
 use mathlib.Core.Bool.{Bool, true, false, not, _&&_, cond}
 use mathlib.Core.List.{List}
-use Prim.Native.Nat.{ℕ, zero, suc, _+_, _-_}
+use Prim.Native.Nat.{ℕ, zero, suc, _+_, _-_, _<_}
 use lib.Dec.{ltb, leb}
 use lib.ListN.{length, getD}
 use Rattle.lanes.specs.Lanes.{laneOf, someBelow, lastBelow, countBelow}
@@ -16,6 +17,10 @@ use Rattle.search.specs.declared.queue.Found.{Found}
 -- whether a session with value v may make an item with value n, or change one from o to n
 unfoldable pub able : Model → Bool → ℕ → ℕ → ℕ → Bool
 able m made o n v = m .sessionValue v && cond made (makesWith m v n) (modifiesTo m v o n)
+
+-- only session values in the lists are among ready
+abbrev pub Had : Model → List ℕ → Type 0
+Had m ready = (v : ℕ) → v < 256 → laneOf ready v ≡ true → m .sessionValue v ≡ true
 
 -- `ready`: the session values that can be had
 module _ (m : Model) (ready : ℕ → Bool) where

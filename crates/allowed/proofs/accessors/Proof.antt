@@ -1,6 +1,8 @@
 -- `allowed::accessors` meets its contract: of a permission that is not there none, of another the values that are swept.
 use native.Mathlib.Omega.{arith}
+use Rattle.lanes.specs.Lanes.{laneOf}
 use Rattle.policy.specs.Rules.{policyOf}
+use Rattle.allowed.specs.Basis.{rulesBy}
 use Rattle.allowed.proofs.ModelLaws.{model-permissions}
 use Rattle.allowed.proofs.EdgeLaws.{accesses-none, accesses-swept}
 use borrow.Author.Needs.{needs}
@@ -11,7 +13,10 @@ none-requires : tie.Need-none-requires
 none-requires c κs = search needs
 
 returns : tie.Need-returns
-returns c = let a = c .before .before .before .args in accesses-none (policyOf (a .rules)) _ (a .p) (a .o) (omega (arith, model-permissions (a .rules))) (c .none .ensures)
+returns c =
+    let a = c .before .before .before .before .args in
+    let r = rulesBy (a .basis) (a .nodes .now) in
+    accesses-none (policyOf r) (laneOf (a .among)) _ (a .p) (a .o) (omega (arith, model-permissions r)) (c .none .ensures)
 
 add-sweep : tie.Need-add-sweep
 add-sweep c = search needs
@@ -23,7 +28,10 @@ sweep-requires : tie.Need-sweep-requires
 sweep-requires c κs = search needs
 
 returns-2 : tie.Need-returns-2
-returns-2 c = let a = c .before .before .before .before .args in accesses-swept (policyOf (a .rules)) _ _ (a .p) (a .o) (c .before .accessing .ensures) (omega (arith, model-permissions (a .rules))) (c .sweep .ensures)
+returns-2 c =
+    let a = c .before .before .before .before .before .args in
+    let r = rulesBy (a .basis) (a .nodes .now) in
+    accesses-swept (policyOf r) (laneOf (a .among)) _ _ (a .p) (a .o) (c .before .accessing .ensures) (omega (arith, model-permissions r)) (c .sweep .ensures)
 
 pub accessors-spec : {M : Type 1} → statement M
 accessors-spec =

@@ -1,5 +1,7 @@
 -- `allowed::modified_to` meets its contract: the values that are swept.
+use Rattle.lanes.specs.Lanes.{laneOf}
 use Rattle.policy.specs.Rules.{policyOf}
+use Rattle.allowed.specs.Basis.{rulesBy}
 use Rattle.allowed.proofs.EdgeLaws.{modified-swept}
 use borrow.Author.Needs.{needs}
 use Rattle.allowed.proofs.modified_to.Statement.{statement}
@@ -12,7 +14,9 @@ sweep-requires : tie.Need-sweep-requires
 sweep-requires c κs = search needs
 
 returns : tie.Need-returns
-returns c = let a = c .before .before .args in modified-swept (policyOf (a .rules)) _ _ (a .v) (a .o) (c .before .modifying .ensures) (c .sweep .ensures)
+returns c =
+    let a = c .before .before .before .args in
+    modified-swept (policyOf (rulesBy (a .basis) (a .nodes .now))) (laneOf (a .among)) _ _ (a .v) (a .o) (c .before .modifying .ensures) (c .sweep .ensures)
 
 pub modified-to-spec : {M : Type 1} → statement M
 modified-to-spec = tie.close (tie.spec modifying-requires sweep-requires returns)

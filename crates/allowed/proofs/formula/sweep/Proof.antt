@@ -1,5 +1,7 @@
--- `allowed::sweep` meets its contract: the values of the class, and of these the ones that the formula is true of.
+-- `allowed::sweep` meets its contract: of the values asked about those that the formula is true of, and none where there is no such formula.
 use native.Mathlib.Omega.{arith}
+use Rattle.lanes.specs.Lanes.{laneOf}
+use Rattle.allowed.specs.Basis.{rulesBy}
 use Rattle.allowed.proofs.Laws.{swept-none, swept-held}
 use borrow.Author.Needs.{needs}
 use Rattle.allowed.proofs.formula.sweep.Statement.{statement}
@@ -14,27 +16,20 @@ add-if1 c = search needs
 byte-at-requires : tie.Need-byte-at-requires
 byte-at-requires c κs = search needs
 
-class-of-requires : tie.Need-class-of-requires
-class-of-requires c κs = search needs
-
-values-of-requires : tie.Need-values-of-requires
-values-of-requires c κs = search needs
-
 held-by-requires : tie.Need-held-by-requires
 held-by-requires c κs = search needs
 
 returns : tie.Need-returns
 returns c =
-    let q = c .before .before .before .before .before in
-    let a = q .before .before .before .before .before .before .before .before .args in
-    swept-held (a .t1) (a .f) (a .at) (a .holders) _ (q .before .class-of .result) (q .before .before .before .byte-at .result) (q .values-of .result) (omega arith)
-    (q .before .before .before .byte-at .ensures) (q .before .class-of .ensures) (q .values-of .ensures) (c .held-by .ensures)
+    let a = c .before .before .before .before .before .before .before .before .args in
+    let n = c .before .before .byte-at in
+    swept-held (rulesBy (a .t1) (a .nodes .now)) (a .f) (a .at) (a .holders) (laneOf (a .among)) _ (n .result) (omega arith) (n .ensures) (c .held-by .ensures)
 
 none-requires : tie.Need-none-requires
 none-requires c κs = search needs
 
 returns-2 : tie.Need-returns-2
-returns-2 c = let a = c .before .before .args in swept-none (a .t1) (a .f) (a .at) (a .holders) _ (omega arith) (c .none .ensures)
+returns-2 c = let a = c .before .before .before .args in swept-none (rulesBy (a .t1) (a .nodes .now)) (a .f) (a .at) (a .holders) (laneOf (a .among)) _ (omega arith) (c .none .ensures)
 
 pub sweep-spec : {M : Type 1} → statement M
 sweep-spec =
@@ -43,8 +38,6 @@ sweep-spec =
     cast-if1
     add-if1
     byte-at-requires
-    class-of-requires
-    values-of-requires
     held-by-requires
     returns
     none-requires

@@ -8,21 +8,20 @@ use native.Mathlib.Omega.{arith}
 use borrow.Author.Tests.{lt-ltb, le-ltb}
 use Rattle.lanes.specs.Lanes.{laneOf, Lanes, lowestOf}
 use Rattle.lanes.proofs.Laws.{lowest-le, Rest, rest-all, rest-before, rest-on, rest-next, rest-between}
-use Rattle.policy.specs.Rules.{policyOf}
-use Rattle.allowed.specs.Allowed.{modelOf}
+use Rattle.allowed.specs.Basis.{modelBy}
 use Rattle.search.specs.Queue.{unmet}
-use Rattle.search.specs.Items.{lastAble, asked}
-use Rattle.search.proofs.Laws.{rest-here, unmet-lanes, able-last, asked-start, asked-next}
+use Rattle.search.specs.Items.{Had, lastAble, asked}
+use Rattle.search.proofs.Laws.{rest-here, unmet-lanes, unmet-listed, able-last, asked-start, asked-next}
 use borrow.Author.Needs.{needs}
 use Rattle.search.proofs.items.asked.Statement.{statement}
 use Rattle.search.proofs.items.asked.Tie as tie
 
 abbrev Inv-loop : tie.InvT-loop
-Inv-loop rules ready made o from r₀ rest₀ n₀ r rest n =
-    (n ≤ 256) × Rest rest₀ rest n × (Lanes (unmet (modelOf (policyOf rules) .itemValue) r₀) rest₀ → r ≡ asked (modelOf (policyOf rules)) (laneOf ready) made o r₀ from n)
+Inv-loop basis nodes ready made o from r₀ rest₀ n₀ r rest n =
+    (n ≤ 256) × Rest rest₀ rest n × (Lanes (unmet (modelBy basis nodes .itemValue) r₀) rest₀ → Had (modelBy basis nodes) ready → r ≡ asked (modelBy basis nodes) (laneOf ready) made o r₀ from n)
 
 abbrev μ-loop : tie.MeasureT-loop
-μ-loop rules ready made o from r₀ rest₀ n₀ r rest n = 256 - n
+μ-loop basis nodes ready made o from r₀ rest₀ n₀ r rest n = 256 - n
 
 minus-requires : tie.Need-minus-requires Inv-loop μ-loop
 minus-requires c κs = search needs
@@ -32,13 +31,13 @@ lowest-requires c κs = search needs
 
 loop-holds : tie.Need-loop-holds Inv-loop μ-loop
 loop-holds c =
-    let a = c .before .before .before .args in
+    let a = c .before .before .before .before .before .args in
     let x = c .before .minus .result in
     let y = c .lowest in (
       omega (arith, y .ensures, lowest-le x),
       rest-all x (y .result) (y .ensures),
-      λ F.
-          asked-start (modelOf (policyOf (a .rules))) (laneOf (a .ready)) (a .q) (a .made) (a .o) (a .from) (y .result)
+      λ F H.
+          asked-start (modelBy (a .basis) (a .nodes .now)) (laneOf (a .ready)) (a .q) (a .made) (a .o) (a .from) (y .result)
           (λ v h. sym (F .each v (omega (arith, y .ensures, lowest-le x))) ∙ rest-before x (y .result) (y .ensures) v h),
     )
 
@@ -47,9 +46,6 @@ cast-able c = search needs
 
 able-requires : tie.Need-able-requires Inv-loop μ-loop
 able-requires c κs = search needs
-
-and-requires : tie.Need-and-requires Inv-loop μ-loop
-and-requires c κs = search needs
 
 highest-requires : tie.Need-highest-requires Inv-loop μ-loop
 highest-requires c κs = search needs
@@ -71,46 +67,45 @@ lowest-requires-2 c κs = search needs
 
 loop-less : tie.Need-loop-less Inv-loop μ-loop
 loop-less c =
-    let h = c .before .before .before .before .before .before .loop-test .taken in
-    let l = c .before .before .before .before .before .before .before .loop in
-    let x = c .before .before .before .before .before .before .before .before .before .minus .result in
+    let h = c .before .before .before .before .before .loop-test .taken in
+    let l = c .before .before .before .before .before .before .loop in
+    let x = c .before .before .before .before .before .before .before .before .minus .result in
     let w = c .before .without in
     let z = c .lowest2 in
     omega (arith, h, rest-on x (l .rest) (w .result) (l .n) (z .result) h (l .inv .1) (w .ensures) (z .ensures))
 
 loop-again : tie.Need-loop-again Inv-loop μ-loop
 loop-again c =
-    let a = c .before .before .before .before .before .before .before .before .before .before .before .args in
-    let h = c .before .before .before .before .before .before .loop-test .taken in
-    let l = c .before .before .before .before .before .before .before .loop in
-    let x = c .before .before .before .before .before .before .before .before .before .minus .result in
+    let a = c .before .before .before .before .before .before .before .before .before .before .before .before .args in
+    let h = c .before .before .before .before .before .loop-test .taken in
+    let l = c .before .before .before .before .before .before .loop in
+    let x = c .before .before .before .before .before .before .before .before .minus .result in
     let w = c .before .without in
     let z = c .lowest2 in
-    let row = c .before .before .before .before .before .able in
-    let both = c .before .before .before .before .and in
+    let row = c .before .before .before .before .able in
     let by = c .before .before .before .highest in
-    let m = modelOf (policyOf (a .rules)) in
-    let on = rest-on x (l .rest) (w .result) (l .n) (z .result) h (l .inv .1) (w .ensures) (z .ensures) in
-    let e : by .result ≡ lastAble m (laneOf (a .ready)) (a .made) (a .o) (l .n) = by .ensures ∙ able-last m (a .made) (a .o) (l .n) (a .ready) (row .result) (both .result) (row .ensures) (both .ensures) in (
+    let m = modelBy (a .basis) (a .nodes .now) in
+    let on = rest-on x (l .rest) (w .result) (l .n) (z .result) h (l .inv .1) (w .ensures) (z .ensures) in (
       omega (arith, z .ensures, lowest-le (w .result)),
       rest-next x (l .rest) (w .result) (l .n) (z .result) h (l .inv .1) (w .ensures) (z .ensures),
-      λ F.
+      λ F H.
           let here : unmet (m .itemValue) (a .q) (l .n) ≡ true = sym (F .each (l .n) h) ∙ rest-here x (l .rest) (l .n) h (l .inv .1) in
           let between : (v : ℕ) → l .n < v → v < z .result → unmet (m .itemValue) (a .q) v ≡ false = λ v p q. sym (F .each v (omega (arith, q, z .ensures, lowest-le (w .result)))) ∙ rest-between x (l .rest) (w .result) (l .n) (z .result) h (l .inv .1) (w .ensures) (z .ensures) v p q in
+          let e : by .result ≡ lastAble m (laneOf (a .ready)) (a .made) (a .o) (l .n) = by .ensures ∙ able-last m (a .made) (a .o) (l .n) (a .ready) (row .result) (row .ensures H (unmet-listed (m .itemValue) (a .q) (l .n) here)) in
           ⊎-elim
-          (λ k. k .2 ∙ k .1 .ensures ∙ asked-next m (laneOf (a .ready)) (a .q) (a .made) (a .o) (a .from) (l .n) (z .result) (by .result) (l .r) true e (l .inv .2 F) here (lt-ltb (by .result) 256 (k .0 .taken)) on between)
-          (λ k. k .1 ∙ asked-next m (laneOf (a .ready)) (a .q) (a .made) (a .o) (a .from) (l .n) (z .result) (by .result) (l .r) false e (l .inv .2 F) here (le-ltb (by .result) 256 (k .0 .left)) on between)
+          (λ k. k .2 ∙ k .1 .ensures ∙ asked-next m (laneOf (a .ready)) (a .q) (a .made) (a .o) (a .from) (l .n) (z .result) (by .result) (l .r) true e (l .inv .2 F H) here (lt-ltb (by .result) 256 (k .0 .taken)) on between)
+          (λ k. k .1 ∙ asked-next m (laneOf (a .ready)) (a .q) (a .made) (a .o) (a .from) (l .n) (z .result) (by .result) (l .r) false e (l .inv .2 F H) here (le-ltb (by .result) 256 (k .0 .left)) on between)
           (c .before .before .if1 .came),
     )
 
 returns : tie.Need-returns Inv-loop μ-loop
 returns c =
-    let a = c .before .before .before .before .before .args in
+    let a = c .before .before .before .before .before .before .before .args in
     let l = c .before .loop in
     let x = c .before .before .before .minus in
-    let m = modelOf (policyOf (a .rules)) in
+    let m = modelBy (a .basis) (a .nodes .now) in
     let e : l .n ≡ 256 = omega arith in
-    λ W. l .inv .2 (unmet-lanes (m .itemValue) (a .q) (a .within) (x .result) W (x .ensures)) ∙ ap (asked m (laneOf (a .ready)) (a .made) (a .o) (a .q) (a .from)) e
+    λ W H. l .inv .2 (unmet-lanes (m .itemValue) (a .q) (a .basis .items) (x .result) (W .items) (x .ensures)) H ∙ ap (asked m (laneOf (a .ready)) (a .made) (a .o) (a .q) (a .from)) e
 
 pub asked-spec : {M : Type 1} → statement M
 asked-spec =
@@ -123,7 +118,6 @@ asked-spec =
     loop-holds
     cast-able
     able-requires
-    and-requires
     highest-requires
     cast-push
     cast-push-2

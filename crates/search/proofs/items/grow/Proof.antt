@@ -5,25 +5,24 @@ use mathlib.Core.Logic.{⊎-elim}
 use Prim.Native.Nat.{_-_, _≤_}
 use native.Mathlib.Omega.{arith}
 use borrow.Author.Tests.{lt-ltb, le-ltb}
-use Rattle.lanes.specs.Lanes.{laneOf, Lanes, someBelow}
-use Rattle.policy.specs.Rules.{policyOf}
-use Rattle.allowed.specs.Allowed.{modelOf}
+use Rattle.lanes.specs.Lanes.{laneOf, someBelow}
+use Rattle.allowed.specs.Basis.{modelBy, InLists}
 use Rattle.search.specs.Queue.{unmet}
-use Rattle.search.specs.Items.{growItems}
+use Rattle.search.specs.Items.{Had, growItems}
 use Rattle.search.proofs.Laws.{unmet-some, items-start, items-turn}
 use borrow.Author.Needs.{needs}
 use Rattle.search.proofs.items.grow.Statement.{statement}
 use Rattle.search.proofs.items.grow.Tie as tie
 
 abbrev Inv-loop : tie.InvT-loop
-Inv-loop rules ready within r₀ i₀ r i =
-    (i ≤ 256) × (Lanes (modelOf (policyOf rules) .itemValue) within → r ≡ growItems (modelOf (policyOf rules)) (laneOf ready) r₀ i)
+Inv-loop basis nodes ready within r₀ i₀ r i =
+    (i ≤ 256) × (InLists basis nodes → Had (modelBy basis nodes) ready → r ≡ growItems (modelBy basis nodes) (laneOf ready) r₀ i)
 
 abbrev μ-loop : tie.MeasureT-loop
-μ-loop rules ready within r₀ i₀ r i = 256 - i
+μ-loop basis nodes ready within r₀ i₀ r i = 256 - i
 
 loop-holds : tie.Need-loop-holds Inv-loop μ-loop
-loop-holds c = let a = c .args in (search needs, λ W. items-start (modelOf (policyOf (a .rules))) (laneOf (a .ready)) (a .q))
+loop-holds c = let a = c .before .before .args in (search needs, λ W H. items-start (modelBy (a .basis) (a .nodes .now)) (laneOf (a .ready)) (a .q))
 
 minus-requires : tie.Need-minus-requires Inv-loop μ-loop
 minus-requires c κs = search needs
@@ -42,29 +41,29 @@ loop-less c = search needs
 
 loop-again : tie.Need-loop-again Inv-loop μ-loop
 loop-again c =
-    let a = c .before .before .before .before .args in
+    let a = c .before .before .before .before .before .before .args in
     let l = c .before .before .before .loop in
-    let m = modelOf (policyOf (a .rules)) in
+    let m = modelBy (a .basis) (a .nodes .now) in
     let f = m .itemValue in (
       search needs,
-      λ W. ⊎-elim
-          (λ z. z .6 ∙ z .5 .ensures W
-          ∙ items-turn m (laneOf (a .ready)) (a .q) (l .i) (l .r) true (l .inv .1 W)
-          (ap₂ _&&_ (lt-ltb (l .i) (l .r .len) (z .0 .taken)) (unmet-some f (l .r) (a .within) (z .2 .result) W (z .2 .ensures) (z .3 .result) true (z .3 .ensures) (z .4 .taken))))
+      λ W H. ⊎-elim
+          (λ z. z .6 ∙ z .5 .ensures W H
+          ∙ items-turn m (laneOf (a .ready)) (a .q) (l .i) (l .r) true (l .inv .1 W H)
+          (ap₂ _&&_ (lt-ltb (l .i) (l .r .len) (z .0 .taken)) (unmet-some f (l .r) (a .basis .items) (z .2 .result) (W .items) (z .2 .ensures) (z .3 .result) true (z .3 .ensures) (z .4 .taken))))
           (⊎-elim
           (λ z. z .5
-          ∙ items-turn m (laneOf (a .ready)) (a .q) (l .i) (l .r) false (l .inv .1 W)
-          (ap₂ _&&_ (lt-ltb (l .i) (l .r .len) (z .0 .taken)) (unmet-some f (l .r) (a .within) (z .2 .result) W (z .2 .ensures) (z .3 .result) false (z .3 .ensures) (z .4 .left))))
-          (λ z. z .1 ∙ items-turn m (laneOf (a .ready)) (a .q) (l .i) (l .r) false (l .inv .1 W) (ap (λ (b : Bool). b && someBelow (unmet f (l .r)) 256) (le-ltb (l .i) (l .r .len) (z .0 .left)))))
+          ∙ items-turn m (laneOf (a .ready)) (a .q) (l .i) (l .r) false (l .inv .1 W H)
+          (ap₂ _&&_ (lt-ltb (l .i) (l .r .len) (z .0 .taken)) (unmet-some f (l .r) (a .basis .items) (z .2 .result) (W .items) (z .2 .ensures) (z .3 .result) false (z .3 .ensures) (z .4 .left))))
+          (λ z. z .1 ∙ items-turn m (laneOf (a .ready)) (a .q) (l .i) (l .r) false (l .inv .1 W H) (ap (λ (b : Bool). b && someBelow (unmet f (l .r)) 256) (le-ltb (l .i) (l .r .len) (z .0 .left)))))
           (c .if1 .came),
     )
 
 returns : tie.Need-returns Inv-loop μ-loop
 returns c =
-    let a = c .before .before .args in
+    let a = c .before .before .before .before .args in
     let l = c .before .loop in
     let e : l .i ≡ 256 = omega arith in
-    λ W. l .inv .1 W ∙ ap (growItems (modelOf (policyOf (a .rules))) (laneOf (a .ready)) (a .q)) e
+    λ W H. l .inv .1 W H ∙ ap (growItems (modelBy (a .basis) (a .nodes .now)) (laneOf (a .ready)) (a .q)) e
 
 pub grow-spec : {M : Type 1} → statement M
 grow-spec =

@@ -4,13 +4,16 @@ use native.Mathlib.Omega.{arith}
 use lib.ListN.{length}
 use Rattle.lanes.specs.Lanes.{laneOf, countBelow}
 use Rattle.lanes.proofs.Laws.{lanes-own, count-lanes}
-use Rattle.policy.specs.Rules.{policyOf}
-use Rattle.allowed.specs.Allowed.{modelOf}
+use Rattle.allowed.specs.Basis.{modelBy}
 use Rattle.search.specs.Queue.{unmet}
 use Rattle.search.proofs.Laws.{unmet-lanes, widened-offered, widened-asked}
 use borrow.Author.Needs.{needs}
 use Rattle.search.proofs.items.widened.Statement.{statement}
 use Rattle.search.proofs.items.widened.Tie as tie
+
+-- a set has four words
+ready-long : (s : tie.Start) → length (s .args .ready) ≡ 4
+ready-long s = search needs
 
 count-requires : tie.Need-count-requires
 count-requires c κs = search needs
@@ -26,13 +29,13 @@ offered-requires c κs = search needs
 
 returns : tie.Need-returns
 returns c =
-    let a = c .before .before .before .before .before .before .args in
-    let m = modelOf (policyOf (a .rules)) in
+    let s₀ = c .before .before .before .before .before .before .before .before in
+    let a = s₀ .args in
+    let m = modelBy (a .basis) (a .nodes .now) in
     let x = c .before .before .before .minus in
-    let k : length (a .ready) ≡ 4 = search needs in
-    λ W.
-    let p : c .before .before .before .before .count .result ≡ countBelow (laneOf (a .ready)) 256 = c .before .before .before .before .count .ensures ∙ count-lanes (laneOf (a .ready)) (a .ready) (lanes-own (a .ready) k) in
-    let s : c .before .before .count2 .result ≡ countBelow (unmet (m .itemValue) (a .t4)) 256 = c .before .before .count2 .ensures ∙ count-lanes (unmet (m .itemValue) (a .t4)) (x .result) (unmet-lanes (m .itemValue) (a .t4) (a .within) (x .result) W (x .ensures)) in
+    λ W H.
+    let p : c .before .before .before .before .count .result ≡ countBelow (laneOf (a .ready)) 256 = c .before .before .before .before .count .ensures ∙ count-lanes (laneOf (a .ready)) (a .ready) (lanes-own (a .ready) (ready-long s₀)) in
+    let s : c .before .before .count2 .result ≡ countBelow (unmet (m .itemValue) (a .t4)) 256 = c .before .before .count2 .ensures ∙ count-lanes (unmet (m .itemValue) (a .t4)) (x .result) (unmet-lanes (m .itemValue) (a .t4) (a .basis .items) (x .result) (W .items) (x .ensures)) in
     c .offered .ensures W ∙ sym (widened-offered m (laneOf (a .ready)) (a .t4) (a .i) (omega (arith, p, s, c .before .if1 .taken)))
 
 element-copy-out-asked : tie.Need-element-copy-out-asked
@@ -49,14 +52,14 @@ asked-requires c κs = search needs
 
 returns-2 : tie.Need-returns-2
 returns-2 c =
-    let a = c .before .before .before .before .before .before .before .args in
-    let m = modelOf (policyOf (a .rules)) in
+    let s₀ = c .before .before .before .before .before .before .before .before .before in
+    let a = s₀ .args in
+    let m = modelBy (a .basis) (a .nodes .now) in
     let x = c .before .before .before .before .minus in
-    let k : length (a .ready) ≡ 4 = search needs in
-    λ W.
-    let p : c .before .before .before .before .before .count .result ≡ countBelow (laneOf (a .ready)) 256 = c .before .before .before .before .before .count .ensures ∙ count-lanes (laneOf (a .ready)) (a .ready) (lanes-own (a .ready) k) in
-    let s : c .before .before .before .count2 .result ≡ countBelow (unmet (m .itemValue) (a .t4)) 256 = c .before .before .before .count2 .ensures ∙ count-lanes (unmet (m .itemValue) (a .t4)) (x .result) (unmet-lanes (m .itemValue) (a .t4) (a .within) (x .result) W (x .ensures)) in
-    c .asked .ensures W ∙ sym (widened-asked m (laneOf (a .ready)) (a .t4) (a .i) (omega (arith, p, s, c .before .before .if1 .left)))
+    λ W H.
+    let p : c .before .before .before .before .before .count .result ≡ countBelow (laneOf (a .ready)) 256 = c .before .before .before .before .before .count .ensures ∙ count-lanes (laneOf (a .ready)) (a .ready) (lanes-own (a .ready) (ready-long s₀)) in
+    let s : c .before .before .before .count2 .result ≡ countBelow (unmet (m .itemValue) (a .t4)) 256 = c .before .before .before .count2 .ensures ∙ count-lanes (unmet (m .itemValue) (a .t4)) (x .result) (unmet-lanes (m .itemValue) (a .t4) (a .basis .items) (x .result) (W .items) (x .ensures)) in
+    c .asked .ensures W H ∙ sym (widened-asked m (laneOf (a .ready)) (a .t4) (a .i) (omega (arith, p, s, c .before .before .if1 .left)))
 
 pub widened-spec : {M : Type 1} → statement M
 widened-spec =

@@ -172,14 +172,28 @@ pub fn opened_with(basis: Basis, nodes: &[u32], u: u8, among: [u64; 4]) -> [u64;
     if basis.users.count <= u {
         return lanes::none();
     }
-    sweep(basis, nodes, 0, 2, opening(user_value(basis.users, u), 0), among)
+    sweep(
+        basis,
+        nodes,
+        0,
+        2,
+        opening(user_value(basis.users, u), 0),
+        among,
+    )
 }
 
 // Of the values that are asked about, those that user u may change a session with value v to.
 pub fn changed_to(basis: Basis, nodes: &[u32], u: u8, v: u8, among: [u64; 4]) -> [u64; 4]
     ensures { λ r. ⌜ Lanes (λ (w : ℕ). (laneOf among w && modelBy basis (now (nodes .entry)) .mayChange u v w)) r ⌝ }
 {
-    sweep(basis, nodes, 1, 2, changing(user_value(basis.users, u), v, 0), among)
+    sweep(
+        basis,
+        nodes,
+        1,
+        2,
+        changing(user_value(basis.users, u), v, 0),
+        among,
+    )
 }
 
 // Of the session values that are asked about, those that may make an item with value o.

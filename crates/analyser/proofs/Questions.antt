@@ -1,6 +1,6 @@
 -- Laws of what deciding a question asks for. In order: the first hit; rows; the searches that a question asks for; what a leak aims at; where the
 -- first leak is.
-use mathlib.Core.Path.{_≡_, refl, ap}
+use mathlib.Core.Path.{_≡_, refl, ap, _∙_}
 use mathlib.Core.Bool.{Bool, true, false, _&&_, cond}
 use mathlib.Core.List.{List}
 use Prim.Native.Nat.{ℕ, zero, suc, _+_, _*_, _^_, _%_, _≤_, _<_}
@@ -32,12 +32,19 @@ first-ext f g k zero h = refl
 first-ext f g k (suc n) h = rw (h k (omega arith), first-ext f g (suc k) n (λ v l. h v (omega arith))) refl
 
 module _ (m : Model) (permission : ℕ) (q : Found) where
-  pub hit-lowest : (i : ℕ) (who row both : List ℕ) → Lanes (λ v. m .sessionValue v && accesses m permission v (getD (q .order) i 0)) row
-      → Lanes (λ v. laneOf who v && laneOf row v) both → lowestOf both ≡ hitValue m permission (laneOf who) q i
+  pub hit-lowest : (i : ℕ) (who own both row : List ℕ) → Lanes (m .sessionValue) own → Lanes (λ (v : ℕ). laneOf who v && laneOf own v) both
+      → Lanes (λ (v : ℕ). laneOf both v && accesses m permission v (getD (q .order) i 0)) row → lowestOf row ≡ hitValue m permission (laneOf who) q i
   unfolding hitValue
-  hit-lowest i who row both R B =
-      lowest-lanes (λ v. laneOf who v && (m .sessionValue v && accesses m permission v (getD (q .order) i 0))) both
-      (lanes-as _ _ both B (λ v h. ap (λ (b : Bool). laneOf who v && b) (R .each v h)))
+  hit-lowest i who own both row S B R =
+      lowest-lanes (λ v. laneOf who v && (m .sessionValue v && accesses m permission v (getD (q .order) i 0))) row
+      (lanes-as _ _ row R
+      (λ v h.
+      ap (λ (b : Bool). b && accesses m permission v (getD (q .order) i 0)) (B .each v h ∙ ap (λ (b : Bool). laneOf who v && b) (S .each v h))
+      ∙ apart (laneOf who v) (m .sessionValue v) (accesses m permission v (getD (q .order) i 0))))
+    where
+      apart : (w s a : Bool) → (w && s) && a ≡ w && (s && a)
+      apart true s a = refl
+      apart false s a = refl
 
   module _ (who : ℕ → Bool) where
     -- there is a hit at place i

@@ -4,7 +4,9 @@ ghost use mathlib.Core.Bool.{cond};
 ghost use lib.Dec.{eqb};
 ghost use lib.ListN.{getD};
 ghost use Rattle.lanes.specs.Lanes.{laneOf, Lanes};
+ghost use Rattle.allowed.specs.Basis.{BasisOf};
 ghost use Rattle.analyser.specs.Decide.{itemFound, sessionFound, whoFound, aimOf};
+use allowed::Basis;
 use leak::Aim;
 use policy::Rules;
 use policy::Sessions;
@@ -50,28 +52,32 @@ fn seen_of(q: Found) -> [u64; 4]
 }
 
 // The search of the values of the item that is asked about, or of any.
-pub(super) fn item_values(rules: Rules, helpers: [u64; 4], q: Question) -> Found
+pub(super) fn item_values(rules: Rules, helpers: [u64; 4], q: Question, basis: Basis) -> Found
+    requires { ⌜ BasisOf rules basis ⌝ }
     ensures { λ r. ⌜ r ≡ itemFound rules (laneOf helpers) q ⌝ }
 {
     if q.itemkind == Question::ITEM {
         return one_item(
-            rules,
+            basis,
+            &rules.nodes,
             helpers,
             q.item,
             value_of(rules.items, q.item as usize),
         );
     }
-    any_item(rules, helpers)
+    any_item(basis, &rules.nodes, helpers, rules.items)
 }
 
 // The search of the values of the session that is asked about, or none.
-pub(super) fn session_values(rules: Rules, q: Question) -> Found
+pub(super) fn session_values(rules: Rules, q: Question, basis: Basis) -> Found
+    requires { ⌜ BasisOf rules basis ⌝ }
     ensures { λ r. ⌜ r ≡ sessionFound rules q ⌝ }
 {
     if q.whokind == Question::SESSION {
         let k = q.who as usize;
         return own_values(
-            rules,
+            basis,
+            &rules.nodes,
             owner_of(rules.sessions, k),
             held_of(rules.sessions, k),
         );

@@ -5,6 +5,7 @@ ghost use lib.ListN.{length};
 ghost use Rattle.rules.specs.Answers.{reading};
 ghost use Rattle.policy.specs.Policy.{width};
 ghost use Rattle.policy.specs.Rules.{attrsOf};
+ghost use Rattle.allowed.specs.Basis.{BasisOf};
 ghost use Rattle.analyser.specs.Answer.{told};
 ghost use Rattle.analyser.specs.Found.{userFound};
 ghost use Rattle.analyser.specs.Decide.{rowsFor, DecidedBy};
@@ -15,6 +16,8 @@ mod aim;
 mod hit;
 mod users;
 
+use allowed::Basis;
+use allowed::basis_of;
 use leak::write_leak;
 use policy::Rules;
 use policy::shape::class_width;
@@ -77,18 +80,19 @@ fn rows_needed(rules: Rules) -> usize
 }
 
 // Decides a question that is good, of rules whose starting sessions could have been brought about.
-fn decide(rules: Rules, users: [Found; 16], q: Question, rows: &mut [u64]) -> Answer
+fn decide(rules: Rules, users: [Found; 16], q: Question, rows: &mut [u64], basis: Basis) -> Answer
     requires { ⌜ ((u : ℕ) → u < 16 → userFound users u .len ≤ 256) ⌝ }
+    requires { ⌜ BasisOf rules basis ⌝ }
     ensures { λ r. ⌜ DecidedBy rules users q (now (rows .entry)) (now (rows .exit)) r ⌝ }
 {
     let asked = about::asked_user(q);
     let helpers = users::helpers(users);
-    let items = about::item_values(rules, helpers, q);
-    let own = about::session_values(rules, q);
+    let items = about::item_values(rules, helpers, q, basis);
+    let own = about::session_values(rules, q, basis);
     let who = about::who_values(users, helpers, own, q);
     let pairs = users::count_pairs(users);
     let values = items.len;
-    let place = hit::hit_place(rules, q.permission, who, items);
+    let place = hit::hit_place(rules, q.permission, who, items, basis);
     if 256 <= place {
         return Answer {
             verdict: Verdict::Safe,
@@ -97,7 +101,7 @@ fn decide(rules: Rules, users: [Found; 16], q: Question, rows: &mut [u64]) -> An
             rows: 0,
         };
     }
-    let value = hit::hit_value(rules, q.permission, who, items, place);
+    let value = hit::hit_value(rules, q.permission, who, items, place, basis);
     let by = users::name_users(users, asked);
     let pen = aim::first_pen(rules.sessions, asked);
     let end = write_leak(
@@ -133,7 +137,8 @@ pub fn analyse(file: &[u8], question: &[u8], rows: &mut [u64]) -> Answer
         }
         Reading::Accepted => {}
     }
-    let users = users::search_users(rules);
+    let basis = basis_of(rules);
+    let users = users::search_users(rules, basis);
     if !users::all_brought(users, rules.sessions) {
         return refused(9);
     }
@@ -143,5 +148,5 @@ pub fn analyse(file: &[u8], question: &[u8], rows: &mut [u64]) -> Answer
     if rows.len() < rows_needed(rules) {
         return refused(11);
     }
-    decide(rules, users, Question::of(question), rows)
+    decide(rules, users, Question::of(question), rows, basis)
 }

@@ -7,7 +7,9 @@ ghost use Rattle.bits.specs.Packed.{tab};
 ghost use Rattle.lanes.specs.Lanes.{Lanes};
 ghost use Rattle.policy.specs.Rules.{policyOf, sessionsOf};
 ghost use Rattle.allowed.specs.Allowed.{modelOf};
+ghost use Rattle.allowed.specs.Basis.{BasisOf};
 ghost use Rattle.analyser.specs.Found.{UsersFound, userFound, anyHas, Names, nameAfter, foundPairs, allFound};
+use allowed::Basis;
 use policy::Rules;
 use policy::Sessions;
 use policy::shape::byte_at;
@@ -16,7 +18,8 @@ use search::queue::nothing;
 use search::sessions::user_values;
 
 // The searches of the rules' users.
-pub(super) fn search_users(rules: Rules) -> [Found; 16]
+pub(super) fn search_users(rules: Rules, basis: Basis) -> [Found; 16]
+    requires { ⌜ BasisOf rules basis ⌝ }
     ensures { λ r. ⌜ UsersFound (modelOf (policyOf rules)) r ⌝ }
 {
     let n = rules.users.count as usize;
@@ -24,7 +27,7 @@ pub(super) fn search_users(rules: Rules) -> [Found; 16]
     let mut users = [none; 16];
     for u in 0..16 {
         if u < n {
-            let q = user_values(rules, u as u8);
+            let q = user_values(basis, &rules.nodes, u as u8);
             users[u] = q;
         }
     }

@@ -34,6 +34,9 @@ returns c =
 enum-told : tie.Need-enum-told
 enum-told c = search needs
 
+basis-of-requires : tie.Need-basis-of-requires
+basis-of-requires c κs = search needs
+
 search-users-requires : tie.Need-search-users-requires
 search-users-requires c κs = search needs
 
@@ -45,7 +48,7 @@ refused-requires-2 c κs = search needs
 
 returns-2 : tie.Need-returns-2
 returns-2 c =
-    let t = c .before .before .before .before in
+    let t = c .before .before .before .before .before in
     let q = t .before .before .before .read-rules in
     let a = t .before .before .before .before .before .before .before .args in
     let e = was-accepted (a .file .now) (q .result .answer) (policyOf (q .result .rules)) (q .ensures .0) (t .enum-told .given .1) in
@@ -61,7 +64,7 @@ refused-requires-3 c κs = search needs
 
 returns-3 : tie.Need-returns-3
 returns-3 c =
-    let t = c .before .before .before .before .before .before in
+    let t = c .before .before .before .before .before .before .before in
     let q = t .before .before .before .read-rules in
     let a = t .before .before .before .before .before .before .before .args in
     let e = was-accepted (a .file .now) (q .result .answer) (policyOf (q .result .rules)) (q .ensures .0) (t .enum-told .given .1) in
@@ -78,7 +81,7 @@ refused-requires-4 c κs = search needs
 
 returns-4 : tie.Need-returns-4
 returns-4 c =
-    let t = c .before .before .before .before .before .before .before .before in
+    let t = c .before .before .before .before .before .before .before .before .before in
     let q = t .before .before .before .read-rules in
     let a = t .before .before .before .before .before .before .before .args in
     let e = was-accepted (a .file .now) (q .result .answer) (policyOf (q .result .rules)) (q .ensures .0) (t .enum-told .given .1) in
@@ -93,15 +96,17 @@ of-requires : tie.Need-of-requires
 of-requires c κs = search needs
 
 decide-requires : tie.Need-decide-requires
-decide-requires c κs =
-    users-few _ _ (c .before .before .before .before .before .before .before .before .search-users .ensures)
+decide-requires c κs = (
+  users-few _ _ (c .before .before .before .before .before .before .before .before .search-users .ensures),
+  c .before .before .before .before .before .before .before .before .before .basis-of .ensures,
+)
 
 same-length : tie.Need-same-length
 same-length c = search needs
 
 returns-5 : tie.Need-returns-5
 returns-5 c =
-    let t = c .before .before .before .before .before .before .before .before .before .before .before .before in
+    let t = c .before .before .before .before .before .before .before .before .before .before .before .before .before in
     let q = t .before .before .before .read-rules in
     let a = t .before .before .before .before .before .before .before .args in
     let e = was-accepted (a .file .now) (q .result .answer) (policyOf (q .result .rules)) (q .ensures .0) (t .enum-told .given .1) in
@@ -123,6 +128,7 @@ analyse-spec =
     refused-requires
     returns
     enum-told
+    basis-of-requires
     search-users-requires
     all-brought-requires
     refused-requires-2

@@ -53,7 +53,7 @@ aim-of-requires c κs = search needs
 
 -- the numbers are bytes
 few-items : (s : tie.Start) → s .args .rules .items .count < 256
-few-items s = search needs
+few-items s = s .good .0 .1 .1 .1 .1 .1 .0 .1 .1 .0 .1
 
 few-sessions : (s : tie.Start) → s .args .rules .sessions .count < 256
 few-sessions s = search needs

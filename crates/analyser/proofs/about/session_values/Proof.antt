@@ -1,7 +1,9 @@
 -- `analyser::session_values` meets its contract.
-use mathlib.Core.Path.{ap₂, _∙_}
+use mathlib.Core.Path.{ap, ap₂, _∙_}
 use Rattle.policy.specs.Rules.{policyOf}
+use Rattle.runs.specs.Model.{Model}
 use Rattle.allowed.specs.Allowed.{modelOf}
+use Rattle.allowed.proofs.ModelLaws.{basis-model, basis-lists}
 use Rattle.search.specs.Queue.{nothing}
 use Rattle.analyser.proofs.Questions.{session-own, session-none}
 use Rattle.search.specs.Sessions.{ownFound}
@@ -23,8 +25,12 @@ own-values-requires c κs = search needs
 
 returns : tie.Need-returns
 returns c =
-    let a = c .before .before .before .before .before .before .args in
-    c .own-values .ensures ∙ ap₂ (ownFound (modelOf (policyOf (a .rules)))) (c .before .before .owner-of .ensures) (c .before .held-of .ensures) ∙ session-own (a .rules) (a .q) (c .before .before .before .before .if1 .taken)
+    let s = c .before .before .before .before .before .before .before .before .before .before .before in
+    let a = s .args in
+    c .own-values .ensures (basis-lists (a .t1) (a .basis) (s .pre))
+    ∙ ap (λ (m : Model). ownFound m (c .before .before .before .owner-of .result) (c .before .held-of .result)) (basis-model (a .t1) (a .basis) (s .pre))
+    ∙ ap₂ (ownFound (modelOf (policyOf (a .t1)))) (c .before .before .before .owner-of .ensures) (c .before .held-of .ensures)
+    ∙ session-own (a .t1) (a .q) (c .before .before .before .before .before .before .before .before .before .if1 .taken)
 
 nothing-requires : tie.Need-nothing-requires
 nothing-requires c κs = search needs
@@ -32,7 +38,7 @@ nothing-requires c κs = search needs
 returns-2 : tie.Need-returns-2
 returns-2 c =
     let a = c .before .before .before .args in
-    c .nothing .ensures ∙ session-none (a .rules) (a .q) (c .before .if1 .left)
+    c .nothing .ensures ∙ session-none (a .t1) (a .q) (c .before .if1 .left)
 
 pub session-values-spec : {M : Type 1} → statement M
 session-values-spec =

@@ -17,10 +17,10 @@ use Rattle.analyser.proofs.hit.hit_place.Statement.{statement}
 use Rattle.analyser.proofs.hit.hit_place.Tie as tie
 
 abbrev Inv-loop : tie.InvT-loop
-Inv-loop rules permission who q i₀ i = (i ≤ 256) × ((k : ℕ) → k < i → hit (modelOf (policyOf rules)) permission q (laneOf who) k ≡ false)
+Inv-loop rules permission who q basis i₀ i = (i ≤ 256) × ((k : ℕ) → k < i → hit (modelOf (policyOf rules)) permission q (laneOf who) k ≡ false)
 
 abbrev μ-loop : tie.MeasureT-loop
-μ-loop rules permission who q i₀ i = 256 - i
+μ-loop rules permission who q basis i₀ i = 256 - i
 
 loop-holds : tie.Need-loop-holds Inv-loop μ-loop
 loop-holds c = (search needs, λ k h. absurd (omega arith))

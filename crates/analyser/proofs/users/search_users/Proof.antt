@@ -1,12 +1,15 @@
 -- `analyser::search_users` meets its contract. The loop's invariant: the searches of the users below u are there. The measure is what is left of the 16.
-use mathlib.Core.Path.{_≡_, refl, sym, subst, _∙_}
+use mathlib.Core.Path.{_≡_, refl, sym, ap, subst, _∙_}
 use mathlib.Core.List.{List}
 use mathlib.Core.Logic.{⊎-elim}
 use Prim.Native.Nat.{_+_, _-_, _≤_}
 use native.Mathlib.Omega.{arith}
 use Rattle.policy.specs.Rules.{policyOf}
 use Rattle.allowed.specs.Allowed.{modelOf}
+use Rattle.runs.specs.Model.{Model}
+use Rattle.allowed.proofs.ModelLaws.{basis-model, basis-lists}
 use Rattle.search.specs.Queue.{nothing}
+use Rattle.search.specs.Sessions.{sessionsFound}
 use Rattle.search.specs.declared.queue.Found.{Found}
 use Rattle.analyser.proofs.Laws.{Searching, searching-none, searching-stays, searching-more, searching-all, model-users}
 use borrow.Author.Needs.{needs}
@@ -14,10 +17,10 @@ use Rattle.analyser.proofs.users.search_users.Statement.{statement}
 use Rattle.analyser.proofs.users.search_users.Tie as tie
 
 abbrev Inv-loop : tie.InvT-loop
-Inv-loop rules n users₀ u₀ users u = (u ≤ 16) × (n ≡ rules .users .count) × Searching (modelOf (policyOf rules)) n users u
+Inv-loop basis rules n users₀ u₀ users u = (u ≤ 16) × (n ≡ rules .users .count) × Searching (modelOf (policyOf rules)) n users u
 
 abbrev μ-loop : tie.MeasureT-loop
-μ-loop rules n users₀ u₀ users u = 16 - u
+μ-loop basis rules n users₀ u₀ users u = 16 - u
 
 cast-n : tie.Need-cast-n Inv-loop μ-loop
 cast-n c = search needs
@@ -26,7 +29,7 @@ nothing-requires : tie.Need-nothing-requires Inv-loop μ-loop
 nothing-requires c κs = search needs
 
 loop-holds : tie.Need-loop-holds Inv-loop μ-loop
-loop-holds c = (search needs, refl, searching-none (modelOf (policyOf (c .before .before .args .rules))) _ (c .nothing .result) (c .nothing .ensures))
+loop-holds c = (search needs, refl, searching-none (modelOf (policyOf (c .before .args .t1))) _ (c .nothing .result) (c .nothing .ensures))
 
 cast-user-values : tie.Need-cast-user-values Inv-loop μ-loop
 cast-user-values c = search needs
@@ -48,22 +51,24 @@ loop-less c = search needs
 
 loop-again : tie.Need-loop-again Inv-loop μ-loop
 loop-again c =
-    let a = c .before .before .before .before .before .args in
+    let s = c .before .before .before .before in
+    let a = s .args in
     let l = c .before .before .loop in
-    let m = modelOf (policyOf (a .rules)) in (
+    let r = a .t1 in
+    let m = modelOf (policyOf r) in (
       search needs,
       search needs,
       ⊎-elim
-          (λ z. subst (λ (us : List Found). Searching m (a .rules .users .count) us (l .u + 1)) (sym (z .2)) (searching-more m _ (l .users) (l .u) (omega arith) (l .inv .2) (z .1 .result) (z .0 .taken) (z .1 .ensures)))
-          (λ z. subst (λ (us : List Found). Searching m (a .rules .users .count) us (l .u + 1)) (sym (z .1)) (searching-stays m _ (l .users) (l .u) (omega arith) (l .inv .2) (z .0 .left)))
+          (λ z. subst (λ (us : List Found). Searching m (r .users .count) us (l .u + 1)) (sym (z .5)) (searching-more m _ (l .users) (l .u) (omega arith) (l .inv .2) (z .4 .result) (z .0 .taken) (z .4 .ensures (basis-lists r (a .basis) (s .pre)) ∙ ap (λ (x : Model). sessionsFound x (l .u)) (basis-model r (a .basis) (s .pre)))))
+          (λ z. subst (λ (us : List Found). Searching m (r .users .count) us (l .u + 1)) (sym (z .1)) (searching-stays m _ (l .users) (l .u) (omega arith) (l .inv .2) (z .0 .left)))
           (c .if1 .came),
     )
 
 returns : tie.Need-returns Inv-loop μ-loop
 returns c =
-    let a = c .before .before .before .before .args in
+    let a = c .before .before .before .args in
     let l = c .before .loop in
-    searching-all (modelOf (policyOf (a .rules))) _ (l .users) (l .u) (omega arith) (model-users (a .rules) ∙ sym (l .inv .1)) (l .inv .2)
+    searching-all (modelOf (policyOf (a .t1))) _ (l .users) (l .u) (omega arith) (model-users (a .t1) ∙ sym (l .inv .1)) (l .inv .2)
 
 pub search-users-spec : {M : Type 1} → statement M
 search-users-spec =

@@ -5,28 +5,25 @@ ghost use mathlib.Core.Bool.{_&&_};
 ghost use Prim.Native.Nat.{ℕ};
 ghost use lib.Dec.{ltb};
 ghost use Rattle.lanes.specs.Lanes.{laneOf, Lanes};
-ghost use Rattle.policy.specs.Rules.{policyOf, valuesOf};
+ghost use Rattle.policy.specs.Rules.{policyOf};
 ghost use Rattle.runs.specs.Edge.{accesses};
-ghost use lib.ListN.{getD};
-ghost use Rattle.allowed.specs.Allowed.{
-  modelOf,
-  opening as openingOf,
-  changing as changingOf,
-  making as makingOf,
-  modifying as modifyingOf,
-  accessing as accessingOf,
-};
+ghost use Rattle.allowed.specs.Allowed.{modelOf};
 ghost use Rattle.allowed.specs.Basis.{BasisOf, modelBy};
 
 mod formula;
+mod holders;
 
 use formula::says;
 use formula::sweep;
-use formulas::Holders;
+use holders::accessing;
+use holders::changing;
+use holders::making;
+use holders::modifying;
+use holders::opening;
+use holders::user_value;
 use policy::Classes;
 use policy::Rules;
 use policy::Values;
-use policy::shape::byte_at;
 
 // What formulas are asked by, but for their nodes, which are lent beside it: the lists, the users' values, how many permissions there are, how many
 // nodes each formula has, and as sets the values in the lists of sessions and of items.
@@ -56,78 +53,6 @@ pub fn basis_of(rules: Rules) -> Basis
         sessions,
         items,
     }
-}
-
-// The holders of each formula: those that it can't look at have value 0.
-fn opening(user: u8, new: u8) -> Holders
-    ensures { λ r. ⌜ r ≡ openingOf user new ⌝ }
-{
-    Holders {
-        user,
-        session: 0,
-        newsession: new,
-        item: 0,
-        newitem: 0,
-    }
-}
-
-fn changing(user: u8, old: u8, new: u8) -> Holders
-    ensures { λ r. ⌜ r ≡ changingOf user old new ⌝ }
-{
-    Holders {
-        user,
-        session: old,
-        newsession: new,
-        item: 0,
-        newitem: 0,
-    }
-}
-
-fn making(session: u8, new: u8) -> Holders
-    ensures { λ r. ⌜ r ≡ makingOf session new ⌝ }
-{
-    Holders {
-        user: 0,
-        session,
-        newsession: 0,
-        item: 0,
-        newitem: new,
-    }
-}
-
-fn modifying(session: u8, old: u8, new: u8) -> Holders
-    ensures { λ r. ⌜ r ≡ modifyingOf session old new ⌝ }
-{
-    Holders {
-        user: 0,
-        session,
-        newsession: 0,
-        item: old,
-        newitem: new,
-    }
-}
-
-fn accessing(session: u8, item: u8) -> Holders
-    ensures { λ r. ⌜ r ≡ accessingOf session item ⌝ }
-{
-    Holders {
-        user: 0,
-        session,
-        newsession: 0,
-        item,
-        newitem: 0,
-    }
-}
-
-// The value of user u, or 0 where there is none.
-fn user_value(users: Values, u: u8) -> u8
-    ensures { λ r. ⌜ r ≡ getD (valuesOf users) u 0 ⌝ }
-{
-    if users.count <= u {
-        return 0;
-    }
-    let values = users.values;
-    byte_at(&values, u as usize)
 }
 
 // Whether the formula lets user u open a session with value v.

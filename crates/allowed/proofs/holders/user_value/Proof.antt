@@ -2,8 +2,8 @@
 use mathlib.Core.Path.{sym, _∙_}
 use Rattle.allowed.proofs.Laws.{value-at, value-none}
 use borrow.Author.Needs.{needs}
-use Rattle.allowed.proofs.user_value.Statement.{statement}
-use Rattle.allowed.proofs.user_value.Tie as tie
+use Rattle.allowed.proofs.holders.user_value.Statement.{statement}
+use Rattle.allowed.proofs.holders.user_value.Tie as tie
 
 returns : tie.Need-returns
 returns c = let a = c .before .before .args in sym (value-none (a .users) (a .u) (c .if1 .taken))

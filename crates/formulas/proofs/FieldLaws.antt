@@ -17,11 +17,6 @@ use Rattle.policy.specs.Nodes.{holderOf, placeOf}
 use Rattle.formulas.specs.Value.{attrOf, shiftIn, bitsIn}
 use Rattle.formulas.specs.Parts.{Filling}
 
--- past the last attribute nothing stands
-pub none-right : (l : List Attr) (k : ℕ) → length l ≤ k → min (width (drop (suc k) l)) 8 ≡ 0
-unfolding width
-none-right l k h = ap (λ (m : List Attr). min (width m) 8) (drop-of-length-le l {i = suc k} (omega arith))
-
 -- what stands right of an attribute, by the width of the later ones
 pub right-at : (l : List Attr) (k left : ℕ) → left ≡ width (drop (k + 1) l) → min left 8 ≡ min (width (drop (suc k) l)) 8
 right-at l k left e = ap (λ (n : ℕ). min n 8) (e ∙ ap (λ (n : ℕ). width (drop n l)) (add-one k))

@@ -57,7 +57,7 @@ fn constants(table: &mut [u8])
 }
 
 // The attributes' parts of v and of w are stored at the places of the holders g and h, and the sizes of their lists, the last attribute
-// first. The holders are the same, or h is the one after g.
+// first: x and y are what is left of v and w. A class has room for 8 attributes. The holders are the same, or h is the one after g.
 fn fill(values: &mut [u8], sizes: &mut [u8], g: usize, h: usize, class: Class, v: u8, w: u8)
     requires { ⌜ (g ≤ h) × (h ≤ g + 1) × (32 * h + 32 ≤ length (now values)) × (32 * h + 32 ≤ length (now sizes)) ⌝ }
     ensures { λ r. ⌜ Filling (λ i k. partOf (attrsOf class) k (cond (eqb i h) w v)) g h 0 (now (values .entry)) (now (values .exit)) ⌝ }

@@ -1,12 +1,12 @@
--- Laws of bits. In order: the bits of one value, at most 8; a byte cut by at most 8 bits; the bits of a byte's values, one attribute after another.
-use mathlib.Core.Path.{_≡_, refl, sym, ap, _∙_}
-use Prim.Native.Nat.{ℕ, _+_, _/_, _%_, _^_, _≤_, _<_, min}
+-- Laws of bits. In order: the bits of one value, at most 8; what of a byte stands right and left of some bits.
+use mathlib.Core.Path.{_≡_, sym, ap, _∙_}
+use Prim.Native.Nat.{ℕ, _/_, _%_, _^_, _≤_, _<_, min}
 use native.Mathlib.Nat.{mod-eq-of-lt, div-eq-of-lt}
 use native.Mathlib.Decide.{decLt}
 use native.Mathlib.Omega.{arith}
 use borrow.Author.Tests.{eq-eqb, ne-eqb}
 use lib.Pow.{pow-mono}
-use Rattle.policy.specs.Policy.{fewestBits, bitsFor}
+use Rattle.policy.specs.Policy.{bitsFor}
 use Rattle.policy.proofs.Laws.{fewest-least}
 
 -- an atomic value takes no more than 8 bits

@@ -1,5 +1,6 @@
 -- Laws of tables of operands. In order: a place that is stored for two holders; their places filled in from the last to the first; a table whose
--- first holders are filled in: none, one or two more, all; an attribute's part and its list's size; the width of the later attributes.
+-- first holders are filled in: none, one or two more, all; attributes that are not there; the width of the later ones; an attribute's part, what
+-- stands left of it, and its list's size.
 use mathlib.Core.Path.{_≡_, refl, sym, ap, _∙_, subst}
 use mathlib.Core.List.{List}
 use Prim.Native.Nat.{ℕ, zero, suc, _+_, _*_, _-_, _/_, _%_, _^_, _<_, _≤_, min}

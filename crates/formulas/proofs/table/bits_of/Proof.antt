@@ -1,5 +1,5 @@
 -- `formulas::table::bits_of` meets its contract: an atomic value takes at most 8 bits, as its list has at most 255 values.
-use mathlib.Core.Path.{_≡_, sym, ap, _∙_}
+use mathlib.Core.Path.{sym, ap, _∙_}
 use Prim.Native.Nat.{ℕ, min}
 use native.Mathlib.Omega.{arith}
 use Rattle.formulas.proofs.BitLaws.{few-atomic, bits-set}

@@ -1,6 +1,6 @@
 -- `formulas::table::lay` meets its contract. The loop's invariant: the places from k on are filled in, in both tables, and left is the width of
 -- these attributes. The measure is k.
-use mathlib.Core.Path.{_≡_, refl, sym, ap, _∙_}
+use mathlib.Core.Path.{_≡_, sym, ap, _∙_}
 use mathlib.Core.List.{List}
 use Prim.Native.Nat.{ℕ, suc, _+_, _*_, _-_, _<_, _≤_, min}
 use native.Mathlib.Omega.{arith}

@@ -1,5 +1,5 @@
 -- Laws of where the operands of one holder lie. In order: the bits right of an attribute; the tables, filled in or not.
-use mathlib.Core.Path.{_≡_, refl, sym, ap, _∙_}
+use mathlib.Core.Path.{_≡_, sym, ap, _∙_}
 use mathlib.Core.Bool.{Bool, cond}
 use mathlib.Core.List.{List}
 use Prim.Native.Nat.{ℕ, suc, _+_, _/_, _≤_, _<_, min}
@@ -8,7 +8,7 @@ use native.Mathlib.Numerals.{add-one}
 use native.Mathlib.Omega.{arith}
 use borrow.Author.Tests.{eq-eqb, ne-eqb}
 use lib.Dec.{eqb}
-use lib.ListN.{length, getD, drop, replicate, length-replicate, getD-replicate, drop-of-length-le}
+use lib.ListN.{length, getD, drop, replicate, length-replicate, getD-replicate}
 use lib.Seq.{ext-getD}
 use Rattle.bits.specs.Packed.{tab}
 use Rattle.bits.proofs.Packed.{length-tab, getD-tab}
@@ -16,11 +16,6 @@ use Rattle.policy.specs.Policy.{Attr, bitsFor, width}
 use Rattle.policy.specs.Nodes.{holderOf, placeOf}
 use Rattle.formulas.specs.Value.{attrOf, shiftIn, bitsIn}
 use Rattle.formulas.specs.Parts.{Filling}
-
--- past the last attribute nothing stands
-pub none-right : (l : List Attr) (k : ℕ) → length l ≤ k → min (width (drop (suc k) l)) 8 ≡ 0
-unfolding width
-none-right l k h = ap (λ (m : List Attr). min (width m) 8) (drop-of-length-le l {i = suc k} (omega arith))
 
 -- what stands right of an attribute, by the width of the later ones
 pub right-at : (l : List Attr) (k left : ℕ) → left ≡ width (drop (k + 1) l) → min left 8 ≡ min (width (drop (suc k) l)) 8

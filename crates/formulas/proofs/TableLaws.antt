@@ -1,15 +1,17 @@
 -- Laws of tables of operands. In order: a place that is stored for two holders; their places filled in from the last to the first; a table whose
--- first holders are filled in: none, one or two more, all; an attribute's part and its list's size; the width of the later attributes.
+-- first holders are filled in: none, one or two more, all; attributes that are not there; the width of the later ones; an attribute's part, what
+-- stands left of it, and its list's size.
 use mathlib.Core.Path.{_≡_, refl, sym, ap, _∙_, subst}
 use mathlib.Core.List.{List}
-use Prim.Native.Nat.{ℕ, suc, _+_, _*_, _/_, _%_, _^_, _<_, _≤_}
+use Prim.Native.Nat.{ℕ, zero, suc, _+_, _*_, _-_, _/_, _%_, _^_, _<_, _≤_, min}
 use mathlib.Core.Bool.{cond}
 use native.Mathlib.Decide.{decLt, ℕ-discrete}
 use native.Mathlib.Numerals.{add-one}
 use native.Mathlib.Omega.{arith}
-use borrow.Author.Tests.{lt-ltb, le-ltb, ne-eqb}
+use borrow.Author.Tests.{le-ltb, ne-eqb}
 use lib.Dec.{eqb}
 use lib.ListN.{length, getD, set, drop, replicate, length-set, length-replicate, getD-replicate, drop-of-length-le, List·getD-eq-default}
+use lib.Pow.{shr-shr}
 use lib.Seq.{getD-set-same, getD-set-other, ext-getD, drop-cons}
 use Rattle.bits.specs.Packed.{tab}
 use Rattle.bits.proofs.Packed.{length-tab, getD-tab}
@@ -22,50 +24,35 @@ use Rattle.policy.proofs.Laws.{attrs-length, attrs-at}
 use Rattle.formulas.specs.Value.{attrOf, partOf, heldBy, operand, sizeOfOperand}
 use Rattle.formulas.specs.Parts.{placed, Filling, Table, valueAt, sizeAt}
 use Rattle.formulas.specs.declared.Holders.{Holders}
+use Rattle.formulas.proofs.BitLaws.{byte-low, byte-high}
 
 module _ (t : List ℕ) (g h k x y : ℕ) where
-  pub placed-in : k < 32 → placed t g h k x y ≡ set (set t (32 * g + k) x) (32 * h + k) y
-  unfolding placed
-  placed-in l = simp (lt-ltb k 32 l)
-
-  pub placed-past : 32 ≤ k → placed t g h k x y ≡ t
-  unfolding placed
-  placed-past l = simp (le-ltb k 32 l)
-
   placed-length : length (placed t g h k x y) ≡ length t
-  placed-length = go (decLt k 32)
-    where
-      go : Dec (k < 32) → length (placed t g h k x y) ≡ length t
-      go (yes l) = ap length (placed-in l) ∙ length-set (set t (32 * g + k) x) (32 * h + k) y ∙ length-set t (32 * g + k) x
-      go (no l) = ap length (placed-past (omega arith))
+  unfolding placed
+  placed-length = length-set (set t (32 * g + k) x) (32 * h + k) y ∙ length-set t (32 * g + k) x
 
   -- the place of the holder h
   placed-last : (z : ℕ) → z < length t → holderOf z ≡ h → placeOf z ≡ k → getD (placed t g h k x y) z 0 ≡ y
-  unfolding holderOf placeOf
+  unfolding placed holderOf placeOf
   placed-last z l e d =
       let i : z ≡ 32 * h + k = omega arith in
-      ap (λ (m : List ℕ). getD m z 0) (placed-in (omega arith)) ∙ ap (λ (j : ℕ). getD (set (set t (32 * g + k) x) (32 * h + k) y) j 0) i
+      ap (λ (j : ℕ). getD (set (set t (32 * g + k) x) (32 * h + k) y) j 0) i
       ∙ getD-set-same (set t (32 * g + k) x) (32 * h + k) y 0 (omega (arith, length-set t (32 * g + k) x))
 
   -- that of the holder g, where it is another
   placed-first : (z : ℕ) → z < length t → holderOf z ≡ g → (g ≡ h → ⊥) → placeOf z ≡ k → getD (placed t g h k x y) z 0 ≡ x
-  unfolding holderOf placeOf
+  unfolding placed holderOf placeOf
   placed-first z l e n d =
       let i : z ≡ 32 * g + k = omega arith in
-      ap (λ (m : List ℕ). getD m z 0) (placed-in (omega arith)) ∙ getD-set-other (set t (32 * g + k) x) (32 * h + k) z y 0 (λ o. n (omega arith))
+      getD-set-other (set t (32 * g + k) x) (32 * h + k) z y 0 (λ o. n (omega arith))
       ∙ ap (λ (j : ℕ). getD (set t (32 * g + k) x) j 0) i ∙ getD-set-same t (32 * g + k) x 0 (omega arith)
 
   -- any other
-  placed-other : (z : ℕ) → (holderOf z ≡ g → placeOf z ≡ k → ⊥) → (holderOf z ≡ h → placeOf z ≡ k → ⊥) → getD (placed t g h k x y) z 0 ≡ getD t z 0
-  unfolding holderOf placeOf
-  placed-other z m n = go (decLt k 32)
-    where
-      go : Dec (k < 32) → getD (placed t g h k x y) z 0 ≡ getD t z 0
-      go (yes l) =
-          ap (λ (m : List ℕ). getD m z 0) (placed-in l)
-          ∙ getD-set-other (set t (32 * g + k) x) (32 * h + k) z y 0 (λ e. n (omega arith) (omega arith))
-          ∙ getD-set-other t (32 * g + k) z x 0 (λ e. m (omega arith) (omega arith))
-      go (no l) = ap (λ (m : List ℕ). getD m z 0) (placed-past (omega arith))
+  placed-other : (z : ℕ) → k < 32 → (holderOf z ≡ g → placeOf z ≡ k → ⊥) → (holderOf z ≡ h → placeOf z ≡ k → ⊥) → getD (placed t g h k x y) z 0 ≡ getD t z 0
+  unfolding placed holderOf placeOf
+  placed-other z l m n =
+      getD-set-other (set t (32 * g + k) x) (32 * h + k) z y 0 (λ e. n (omega arith) (omega arith))
+      ∙ getD-set-other t (32 * g + k) z x 0 (λ e. m (omega arith) (omega arith))
 
 place-lt : (x : ℕ) → placeOf x < 32
 unfolding placeOf
@@ -76,22 +63,22 @@ module _ (part : ℕ → ℕ → ℕ) (g h : ℕ) (old : List ℕ) where
   fill-start k none =
       record { same-length = refl; inside = λ x l a b m z. z ∙ sym (none (holderOf x) (placeOf x) m (place-lt x)); outside = λ x n. refl }
 
-  pub fill-next : (k j y z : ℕ) (new after : List ℕ) → h ≤ g + 1 → g ≤ h → Filling part g h k old new → k ≡ j + 1 → ((g ≡ h → ⊥) → y ≡ part g j) → z ≡ part h j →
+  pub fill-next : (k j y z : ℕ) (new after : List ℕ) → h ≤ g + 1 → g ≤ h → Filling part g h k old new → k ≡ j + 1 → j < 32 → ((g ≡ h → ⊥) → y ≡ part g j) → z ≡ part h j →
       after ≡ placed new g h j y z → Filling part g h j old after
-  fill-next k j y z new after near order f e first last is =
+  fill-next k j y z new after near order f e low first last is =
       rw is
       record {
         same-length = placed-length new g h j y z ∙ f .same-length;
         inside = λ x l a b m n. go x l a b m n (decLt j (placeOf x)) (ℕ-discrete (holderOf x) h);
         outside =
             λ x n.
-            placed-other new g h j y z x (λ a o. let q = n (omega arith) (omega arith) in absurd (omega arith)) (λ a o. let q = n (omega arith) (omega arith) in absurd (omega arith))
+            placed-other new g h j y z x low (λ a o. let q = n (omega arith) (omega arith) in absurd (omega arith)) (λ a o. let q = n (omega arith) (omega arith) in absurd (omega arith))
             ∙ f .outside x (λ a b. let q = n a b in omega arith);
       }
     where
       go : (x : ℕ) → x < length old → g ≤ holderOf x → holderOf x ≤ h → j ≤ placeOf x → getD old x 0 ≡ 0 → Dec (j < placeOf x) → Dec (holderOf x ≡ h) →
           getD (placed new g h j y z) x 0 ≡ part (holderOf x) (placeOf x)
-      go x l a b m n (yes q) _ = placed-other new g h j y z x (λ _ o. omega arith) (λ _ o. omega arith) ∙ f .inside x l a b (omega arith) n
+      go x l a b m n (yes q) _ = placed-other new g h j y z x low (λ _ o. omega arith) (λ _ o. omega arith) ∙ f .inside x l a b (omega arith) n
       go x l a b m n (no q) (yes i) =
           let o : placeOf x ≡ j = omega arith in
           placed-last new g h j y z x (omega (arith, f .same-length)) i o ∙ last ∙ sym (rw (i, o) refl)
@@ -142,19 +129,14 @@ no-bits : bitsFor record { kind = 0; size = 0 } ≡ 0
 unfolding bitsFor fewestBits fewestFrom
 no-bits = refl
 
--- past the end an attribute takes no bits
-pub none-bits : (l : List Attr) (k : ℕ) → length l ≤ k → bitsFor (attrOf l k) ≡ 0
-unfolding attrOf
-none-bits l k h = ap bitsFor (List·getD-eq-default l record { kind = 0; size = 0 } h) ∙ no-bits
+-- an attribute that is not there takes no bits
+pub none-bits : (l : List Attr) (k : ℕ) → attrOf l k ≡ record { kind = 0; size = 0 } → bitsFor (attrOf l k) ≡ 0
+none-bits l k e = ap bitsFor e ∙ no-bits
 
-pub none-part : (l : List Attr) (v k : ℕ) → length l ≤ k → partOf l k v ≡ 0
+pub none-part : (l : List Attr) (v k : ℕ) → attrOf l k ≡ record { kind = 0; size = 0 } → partOf l k v ≡ 0
 unfolding partOf
-none-part l v k h =
-    ap (λ (z : ℕ). v / 2 ^ width (drop (suc k) l) % 2 ^ z) (none-bits l k h) ∙ omega arith
-
-pub none-size : (l : List Attr) (k : ℕ) → length l ≤ k → attrOf l k .size ≡ 0
-unfolding attrOf
-none-size l k h = ap (λ (a : Attr). a .size) (List·getD-eq-default l record { kind = 0; size = 0 } h)
+none-part l v k e =
+    ap (λ (z : ℕ). v / 2 ^ width (drop (suc k) l) % 2 ^ z) (none-bits l k e) ∙ omega arith
 
 pub attr-at : (c : Class) (k : ℕ) → k < c .count → attrOf (attrsOf c) k ≡ attrAt c k
 unfolding attrOf
@@ -173,13 +155,52 @@ later-more c k h =
     ∙ ap (λ (a : Attr). bitsFor a + width (drop (suc k) (attrsOf c))) (attrs-at c k record { kind = 0; size = 0 } h)
     ∙ ap (λ (n : ℕ). bitsFor (attrAt c k) + width (drop n (attrsOf c))) (sym (add-one k))
 
--- an attribute's part, by the width of the later ones
-pub part-at : (c : Class) (v k shift bits : ℕ) → k < c .count → shift ≡ width (drop (k + 1) (attrsOf c)) → bits ≡ bitsFor (attrAt c k) →
-    v / 2 ^ shift % 2 ^ bits ≡ partOf (attrsOf c) k v
+-- a class has as many attributes as it counts, and no more than there is room for
+pub none-past : (c : Class) (k : ℕ) → length (c .kinds) ≤ 8 → length (c .sizes) ≤ 8 → min (c .count) 8 ≤ k → attrOf (attrsOf c) k ≡ record { kind = 0; size = 0 }
+unfolding attrOf attrAt
+none-past c k r s h = go (decLt k (c .count))
+  where
+    go : Dec (k < c .count) → attrOf (attrsOf c) k ≡ record { kind = 0; size = 0 }
+    go (yes l) =
+        attr-at c k l ∙ ap (λ (z : ℕ). record { kind = z; size = getD (c .sizes) k 0 }) (List·getD-eq-default (c .kinds) 0 (omega arith))
+        ∙ ap (λ (z : ℕ). record { kind = 0; size = z }) (List·getD-eq-default (c .sizes) 0 (omega arith))
+    go (no l) = List·getD-eq-default (attrsOf c) record { kind = 0; size = 0 } (omega (arith, attrs-length c))
+
+-- those that are not there have no width
+pub later-past : (c : Class) (k : ℕ) → ((p : ℕ) → k ≤ p → attrOf (attrsOf c) p ≡ record { kind = 0; size = 0 }) → width (drop k (attrsOf c)) ≡ 0
+unfolding width
+later-past c k none = go (decLt k (c .count))
+  where
+    from : (n j : ℕ) → k ≤ j → j + n ≡ c .count → width (drop j (attrsOf c)) ≡ 0
+    from zero j l e =
+        let d : j ≡ c .count = omega arith in
+        ap (λ (i : ℕ). width (drop i (attrsOf c))) d ∙ later-none c
+    from (suc n) j l e =
+        let b : bitsFor (attrAt c j) ≡ 0 = ap bitsFor (sym (attr-at c j (omega arith)) ∙ none j l) ∙ no-bits in
+        let i = from n (j + 1) (omega arith) (omega arith) in
+        later-more c j (omega arith) ∙ omega (arith, b, i)
+
+    go : Dec (k < c .count) → width (drop k (attrsOf c)) ≡ 0
+    go (yes l) = from (c .count - k) k (omega arith) (omega arith)
+    go (no l) = ap width (drop-of-length-le (attrsOf c) {i = k} (omega (arith, attrs-length c)))
+
+-- an attribute's part, by what stands left of the later ones
+pub part-at : (c : Class) (v k x bits : ℕ) → k < c .count → x ≡ v / 2 ^ width (drop (k + 1) (attrsOf c)) → x ≤ 255 → bits ≡ min (bitsFor (attrAt c k)) 8 →
+    x % 2 ^ bits ≡ partOf (attrsOf c) k v
 unfolding partOf
-part-at c v k shift bits h e d =
-    ap (λ (z : ℕ). v / 2 ^ z % 2 ^ bits) (e ∙ ap (λ (n : ℕ). width (drop n (attrsOf c))) (add-one k))
-    ∙ ap (λ (z : ℕ). v / 2 ^ width (drop (suc k) (attrsOf c)) % 2 ^ z) (d ∙ ap bitsFor (sym (attr-at c k h)))
+part-at c v k x bits h e small d =
+    ap (λ (z : ℕ). x % 2 ^ z) d ∙ byte-low x (bitsFor (attrAt c k)) small
+    ∙ ap (λ (z : ℕ). x % 2 ^ z) (ap bitsFor (sym (attr-at c k h)))
+    ∙ ap (λ (z : ℕ). z % 2 ^ bitsFor (attrOf (attrsOf c) k)) (e ∙ ap (λ (n : ℕ). v / 2 ^ width (drop n (attrsOf c))) (add-one k))
+
+-- what stands left of it too
+pub left-at : (c : Class) (v k x bits : ℕ) → k < c .count → x ≡ v / 2 ^ width (drop (k + 1) (attrsOf c)) → x ≤ 255 → bits ≡ min (bitsFor (attrAt c k)) 8 →
+    x / 2 ^ bits ≡ v / 2 ^ width (drop k (attrsOf c))
+left-at c v k x bits h e small d =
+    ap (λ (z : ℕ). x / 2 ^ z) d ∙ byte-high x (bitsFor (attrAt c k)) small
+    ∙ ap (λ (z : ℕ). z / 2 ^ bitsFor (attrAt c k)) e
+    ∙ shr-shr v (width (drop (k + 1) (attrsOf c))) (bitsFor (attrAt c k))
+    ∙ ap (λ (z : ℕ). v / 2 ^ z) (omega (arith, later-more c k h))
 
 pub size-at : (c : Class) (k : ℕ) → k < c .count → getD (c .sizes) k 0 ≡ attrOf (attrsOf c) k .size
 unfolding attrAt

@@ -49,9 +49,9 @@ pub record Said (c : Lists) (v : Holders) (nodes : List ℕ) (n : ℕ) (before :
   pub answers : (j : ℕ) → getD before j false ≡ getD (said c v nodes n) j false
   pub newest : last ≡ getD (said c v nodes n) (n - 1) false
 
--- a table after x and y are stored at place k of the holders g and h, where there is such a place
+-- a table after x and y are stored at place k of the holders g and h
 unfoldable pub placed : List ℕ → ℕ → ℕ → ℕ → ℕ → ℕ → List ℕ
-placed t g h k x y = cond (ltb k 32) (set (set t (32 * g + k) x) (32 * h + k) y) t
+placed t g h k x y = set (set t (32 * g + k) x) (32 * h + k) y
 
 -- new is old with the places of the holders g to h from k on filled in by part, where they were 0
 pub record Filling (part : ℕ → ℕ → ℕ) (g h k : ℕ) (old new : List ℕ) : Type 0 where

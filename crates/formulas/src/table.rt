@@ -2,7 +2,7 @@
 // five of which have attributes, the sixth the constants, and the last two nothing.
 ghost use mathlib.Core.Path.{_≡_};
 ghost use mathlib.Core.Bool.{cond};
-ghost use Prim.Native.Nat.{suc, _+_, _*_, _/_, _%_, _^_, _≤_, min};
+ghost use Prim.Native.Nat.{suc, _+_, _*_, _/_, _%_, _^_, _≤_, _<_, min};
 ghost use lib.Dec.{eqb};
 ghost use lib.ListN.{length, replicate, drop};
 ghost use Rattle.bits.specs.Packed.{tab};
@@ -16,28 +16,30 @@ use policy::Classes;
 use policy::shape::bits_for;
 use policy::shape::byte_at;
 
-// What stands left of the last bits of v, so many as shift says, cut to its own bits.
-fn part(v: u8, shift: usize, bits: u8) -> u8
-    ensures { λ r. ⌜ r ≡ v / 2 ^ shift % 2 ^ bits ⌝ }
+// The bits of one value of an attribute, at most 8.
+fn bits_of(kind: u8, size: u8) -> u8
+    ensures { λ r. ⌜ r ≡ min (bitsFor record { kind = kind; size = size }) 8 ⌝ }
 {
-    if 8 <= shift {
-        return 0;
+    if kind == 0 {
+        bits_for(kind, size)
+    } else {
+        byte_of(size as usize)
     }
-    let x = v >> shift;
-    if 8 <= bits {
-        return x;
-    }
-    x & ((1u8 << bits) - 1)
 }
 
-// x and y are stored at place k of the holders g and h, where there is such a place.
+// The last bits of v, so many as bits says.
+fn last(v: u64, bits: u8) -> u8
+    requires { ⌜ (v ≤ 255) × (bits ≤ 8) ⌝ }
+    ensures { λ r. ⌜ r ≡ v % 2 ^ bits ⌝ }
+{
+    (v & ((1u64 << bits) - 1)) as u8
+}
+
+// x and y are stored at place k of the holders g and h.
 fn place(table: &mut [u8], g: usize, h: usize, k: usize, x: u8, y: u8)
-    requires { ⌜ (g ≤ h) × (32 * h + 32 ≤ length (now table)) ⌝ }
+    requires { ⌜ (g ≤ h) × (k < 32) × (32 * h + 32 ≤ length (now table)) ⌝ }
     ensures { λ r. ⌜ now (table .exit) ≡ placed (now (table .entry)) g h k x y ⌝ }
 {
-    if 32 <= k {
-        return;
-    }
     table[32 * g + k] = x;
     table[32 * h + k] = y;
 }
@@ -55,23 +57,23 @@ fn constants(table: &mut [u8])
 }
 
 // The attributes' parts of v and of w are stored at the places of the holders g and h, and the sizes of their lists, the last attribute
-// first. The holders are the same, or h is the one after g.
+// first: x and y are what is left of v and w. A class has room for 8 attributes. The holders are the same, or h is the one after g.
 fn fill(values: &mut [u8], sizes: &mut [u8], g: usize, h: usize, class: Class, v: u8, w: u8)
     requires { ⌜ (g ≤ h) × (h ≤ g + 1) × (32 * h + 32 ≤ length (now values)) × (32 * h + 32 ≤ length (now sizes)) ⌝ }
     ensures { λ r. ⌜ Filling (λ i k. partOf (attrsOf class) k (cond (eqb i h) w v)) g h 0 (now (values .entry)) (now (values .exit)) ⌝ }
     ensures { λ r. ⌜ Filling (λ i k. attrOf (attrsOf class) k .size) g h 0 (now (sizes .entry)) (now (sizes .exit)) ⌝ }
 {
-    let kinds = class.kinds;
-    let each = class.sizes;
-    let mut shift: usize = 0;
-    let mut k = class.count as usize;
+    let mut x = v as u64;
+    let mut y = w as u64;
+    let mut k = byte_of(class.count as usize) as usize;
     while 0 < k {
         k -= 1;
-        let size = byte_at(&each, k);
-        let bits = bits_for(byte_at(&kinds, k), size);
-        place(values, g, h, k, part(v, shift, bits), part(w, shift, bits));
+        let size = byte_at(&class.sizes, k);
+        let bits = bits_of(byte_at(&class.kinds, k), size);
+        place(values, g, h, k, last(x, bits), last(y, bits));
         place(sizes, g, h, k, size, size);
-        shift += bits as usize;
+        x >>= bits;
+        y >>= bits;
     }
 }
 
@@ -89,13 +91,11 @@ pub(super) fn lay(shifts: &mut [u8], bits: &mut [u8], h: usize, class: Class)
     ensures { λ r. ⌜ Filling (λ i k. min (width (drop (suc k) (attrsOf class))) 8) h h 0 (now (shifts .entry)) (now (shifts .exit)) ⌝ }
     ensures { λ r. ⌜ Filling (λ i k. bitsFor (attrOf (attrsOf class) k)) h h 0 (now (bits .entry)) (now (bits .exit)) ⌝ }
 {
-    let kinds = class.kinds;
-    let each = class.sizes;
     let mut left: usize = 0;
-    let mut k = class.count as usize;
+    let mut k = byte_of(class.count as usize) as usize;
     while 0 < k {
         k -= 1;
-        let own = bits_for(byte_at(&kinds, k), byte_at(&each, k));
+        let own = bits_for(byte_at(&class.kinds, k), byte_at(&class.sizes, k));
         let right = byte_of(left);
         place(shifts, h, h, k, right, right);
         place(bits, h, h, k, own, own);

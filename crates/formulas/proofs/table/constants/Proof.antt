@@ -33,7 +33,7 @@ loop-again : tie.Need-loop-again Inv-loop μ-loop
 loop-again c =
     let t = c .before .before .before .before .before .loop in (
       search needs,
-      fill-next (λ (i p : ℕ). p) 5 5 _ (t .k) (t .k - 1) (t .k - 1) (t .k - 1) _ _ (omega arith) (omega arith) (t .inv .1) (omega arith) (λ _. refl) refl (c .before .before .place .ensures),
+      fill-next (λ (i p : ℕ). p) 5 5 _ (t .k) (t .k - 1) (t .k - 1) (t .k - 1) _ _ (omega arith) (omega arith) (t .inv .1) (omega arith) (omega arith) (λ _. refl) refl (c .before .before .place .ensures),
     )
 
 same-length : tie.Need-same-length Inv-loop μ-loop

@@ -1,15 +1,12 @@
--- `formulas::table::place` meets its contract: the two stores, where the test lets them be.
-use mathlib.Core.Path.{sym}
+-- `formulas::table::place` meets its contract: the two stores.
+use mathlib.Core.Path.{refl}
 use Prim.Native.Nat.{_+_, _*_}
 use native.Mathlib.Omega.{arith}
 use lib.ListN.{length-set}
-use Rattle.formulas.proofs.TableLaws.{placed-in, placed-past}
+use Rattle.formulas.specs.Parts.{placed}
 use borrow.Author.Needs.{needs}
 use Rattle.formulas.proofs.table.place.Statement.{statement}
 use Rattle.formulas.proofs.table.place.Tie as tie
-
-returns : tie.Need-returns
-returns c = let a = c .before .args in sym (placed-past (a .table .now) (a .g) (a .h) (a .k) (a .x) (a .y) (c .if1 .taken))
 
 mul-table : tie.Need-mul-table
 mul-table c = search needs
@@ -27,19 +24,19 @@ add-table-2 : tie.Need-add-table-2
 add-table-2 c = search needs
 
 slice-write-table-2 : tie.Need-slice-write-table-2
-slice-write-table-2 c = let a = c .before .args in omega (arith, length-set (a .table .now) (32 * a .g + a .k) (a .x))
+slice-write-table-2 c = let a = c .args in omega (arith, length-set (a .table .now) (32 * a .g + a .k) (a .x))
 
 same-length : tie.Need-same-length
 same-length c = search needs
 
-returns-2 : tie.Need-returns-2
-returns-2 c = let a = c .before .args in sym (placed-in (a .table .now) (a .g) (a .h) (a .k) (a .x) (a .y) (omega arith))
+returns : tie.Need-returns
+unfolding placed
+returns c = refl
 
 pub place-spec : {M : Type 1} → statement M
 place-spec =
     tie.close
     (tie.spec
-    returns
     mul-table
     add-table
     slice-write-table
@@ -47,4 +44,4 @@ place-spec =
     add-table-2
     slice-write-table-2
     same-length
-    returns-2)
+    returns)

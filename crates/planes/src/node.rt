@@ -16,7 +16,7 @@ use super::word::at;
 use policy::shape::byte_at;
 
 // Where a comparison of operands holds.
-fn compare(planes: &[u64], op: u32, x: Operand, y: Operand) -> u64
+pub(super) fn compare(planes: &[u64], op: u32, x: Operand, y: Operand) -> u64
     ensures { λ r. ⌜ Told (now (planes .entry)) (comparedIn op x y) r ⌝ }
 {
     match op {
@@ -40,7 +40,13 @@ fn compare(planes: &[u64], op: u32, x: Operand, y: Operand) -> u64
 }
 
 // Operand x, by the tables of all operands.
-fn operand_at(values: &[u8], sizes: &[u8], shifts: &[u8], bits: &[u8], x: usize) -> Operand
+pub(super) fn operand_at(
+    values: &[u8],
+    sizes: &[u8],
+    shifts: &[u8],
+    bits: &[u8],
+    x: usize,
+) -> Operand
     ensures { λ r. ⌜ r ≡ operandIn (now (values .entry)) (now (sizes .entry)) (now (shifts .entry)) (now (bits .entry)) x ⌝ }
 {
     Operand {

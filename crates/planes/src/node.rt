@@ -16,7 +16,7 @@ use super::word::at;
 use policy::shape::byte_at;
 
 // Where a comparison of operands holds.
-pub(super) fn compare(planes: &[u64], op: u32, x: Operand, y: Operand) -> u64
+fn compare(planes: &[u64], op: u32, x: Operand, y: Operand) -> u64
     ensures { λ r. ⌜ Told (now (planes .entry)) (comparedIn op x y) r ⌝ }
 {
     match op {

@@ -1,13 +1,12 @@
--- Laws of nodes with four words each. In order: operands that are the same in every word; the words of one node, read and stored; a node by its
+-- Laws of nodes with four words each. In order: a comparison that is the same in every word; the words of one node, read and stored; a node by its
 -- operator; the answers of nodes, one after another.
 use mathlib.Core.Path.{_≡_, refl, sym, ap, ap₂, _∙_}
 use mathlib.Core.Bool.{Bool, true, false, not, _&&_, _||_}
 use mathlib.Core.List.{List, [], _∷_, map}
-use Prim.Native.Nat.{ℕ, zero, suc, _+_, _-_, _*_, _/_, _%_, _^_, _≤_, _<_}
+use Prim.Native.Nat.{ℕ, zero, suc, _+_, _*_, _/_, _%_, _≤_, _<_}
 use native.Mathlib.Decide.{decLt, ℕ-discrete}
 use native.Mathlib.Omega.{arith}
 use lib.ListN.{length, getD, set, replicate, length-set, List·getD-eq-default}
-use lib.Pow.{field, mod-mod-pow}
 use lib.Seq.{getD-set-same, getD-set-other}
 use Rattle.bits.specs.Packed.{tab}
 use Rattle.bits.proofs.Packed.{getD-tab, length-tab}
@@ -22,31 +21,9 @@ use Rattle.formulas.specs.declared.Holders.{Holders}
 use Rattle.planes.specs.Put.{withValue}
 use Rattle.planes.specs.Word.{Operands, operandIn, numberIn, comparedIn, nodeIn, laneAt, storedAt, wordsOf, nodeOver}
 use Rattle.planes.specs.declared.operand.Operand.{Operand}
-use Rattle.planes.proofs.Numbers.{number-plain}
 use Rattle.planes.proofs.Nodes.{answer-at, node-false, node-true, node-not, node-and, node-or, node-compares, lanes-start, lanes-next}
 
--- a field that ends at bit 6 or before it looks at nothing else
-low-field : (v s b : ℕ) → s + b ≤ 6 → v / 2 ^ s % 2 ^ b ≡ v % 2 ^ 6 / 2 ^ s % 2 ^ b
-low-field v s b h =
-    let d = 6 - (b + s) in
-    let e : d + (b + s) ≡ 6 = omega arith in
-    sym (field v b s)
-    ∙ ap (λ (z : ℕ). z / 2 ^ s) (sym (mod-mod-pow v d (b + s)))
-    ∙ ap (λ (n : ℕ). v % 2 ^ n % 2 ^ (b + s) / 2 ^ s) e
-    ∙ field (v % 2 ^ 6) b s
-
--- so it is the same in every word
-pub number-alike : (o : Operand) → o .shift + o .bits ≤ 6 → (w j : ℕ) → numberIn o (64 * w + j) ≡ numberIn o j
-unfolding numberIn
-number-alike o h w j =
-    let e : (64 * w + j) % 2 ^ 6 ≡ j % 2 ^ 6 = omega arith in
-    ap (λ (z : ℕ). o .number / 2 ^ o .bits * 2 ^ o .bits + z)
-    (low-field (64 * w + j) (o .shift) (o .bits) h ∙ ap (λ (z : ℕ). z / 2 ^ o .shift % 2 ^ o .bits) e ∙ sym (low-field j (o .shift) (o .bits) h))
-
-pub plain-alike : (o : Operand) → o .bits ≡ 0 → (w j : ℕ) → numberIn o (64 * w + j) ≡ numberIn o j
-plain-alike o e w j = number-plain o (64 * w + j) e ∙ sym (number-plain o j e)
-
--- and so is a comparison of such operands
+-- a comparison of operands that are the same in every word is the same in every word
 pub compared-alike : (op : ℕ) (x y : Operand) → ((w j : ℕ) → j < 64 → numberIn x (64 * w + j) ≡ numberIn x j) → ((w j : ℕ) → j < 64 → numberIn y (64 * w + j) ≡ numberIn y j)
     → (w u j : ℕ) → j < 64 → comparedIn op x y (64 * w + j) ≡ comparedIn op x y (64 * u + j)
 unfolding comparedIn

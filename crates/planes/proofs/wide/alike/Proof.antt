@@ -1,7 +1,7 @@
 -- `planes::wide::alike` meets its contract: the field is no bits, or bits that are the same in every word.
 use Prim.Native.Nat.{_+_}
 use borrow.Author.Tests.{leb-true}
-use Rattle.planes.proofs.Fours.{number-alike, plain-alike}
+use Rattle.planes.proofs.Numbers.{number-alike, plain-alike}
 use borrow.Author.Needs.{needs}
 use Rattle.planes.proofs.wide.alike.Statement.{statement}
 use Rattle.planes.proofs.wide.alike.Tie as tie

@@ -27,19 +27,6 @@ fn alike(o: Operand) -> bool
     o.shift as usize + o.bits as usize <= 6
 }
 
-// In how many words a comparison of two operands is made: in one where both are seen to be the same in every word.
-fn words(x: Operand, y: Operand) -> usize
-    ensures { λ r. ⌜ (1 ≤ r) × (r ≤ 4) ⌝ }
-    ensures { λ r. ⌜ (r < 4 → (op w u j : ℕ) → j < 64 → comparedIn op x y (64 * w + j) ≡ comparedIn op x y (64 * u + j)) ⌝ }
-{
-    if alike(x) {
-        if alike(y) {
-            return 1;
-        }
-    }
-    4
-}
-
 // Where a comparison of operands holds in word w.
 fn compare_in(w: usize, op: u32, x: Operand, y: Operand) -> u64
     requires { ⌜ w < 4 ⌝ }
@@ -66,19 +53,22 @@ fn compare_in(w: usize, op: u32, x: Operand, y: Operand) -> u64
     }
 }
 
-// Where a comparison of operands holds. Where it is made in one word, that is the answer in all.
-fn compare(op: u32, x: Operand, y: Operand) -> [u64; 4]
+// Where a comparison of operands holds. Where both are the same in every word, one word is the answer in all.
+fn compare_all(op: u32, x: Operand, y: Operand) -> [u64; 4]
     ensures { λ r. ⌜ Lanes (comparedIn op x y) r ⌝ }
 {
-    let n = words(x, y);
-    let mut r: [u64; 4] = [0; 4];
-    for w in 0..n {
-        r[w] = compare_in(w, op, x, y);
+    let first = compare_in(0, op, x, y);
+    if alike(x) {
+        if alike(y) {
+            return [first; 4];
+        }
     }
-    if n < 4 {
-        return [r[0]; 4];
-    }
-    r
+    [
+        first,
+        compare_in(1, op, x, y),
+        compare_in(2, op, x, y),
+        compare_in(3, op, x, y),
+    ]
 }
 
 // The lanes of node a, in an array of four words a node: none from node 64 on.
@@ -124,7 +114,7 @@ fn says(
         2 => lanes::not(load(before, a)),
         3 => lanes::and(load(before, a), load(before, b)),
         4 => lanes::or(load(before, a), load(before, b)),
-        _ => compare(
+        _ => compare_all(
             op,
             operand_at(values, sizes, shifts, bits, a),
             operand_at(values, sizes, shifts, bits, b),

@@ -51,8 +51,8 @@ operand-at-requires c κs = search needs
 operand-at-requires-2 : tie.Need-operand-at-requires-2
 operand-at-requires-2 c κs = search needs
 
-compare-requires : tie.Need-compare-requires
-compare-requires c κs = search needs
+compare-all-requires : tie.Need-compare-all-requires
+compare-all-requires c κs = search needs
 
 returns : tie.Need-returns
 unfolding opOf
@@ -96,8 +96,8 @@ returns-6 c =
     let a = q .args in
     let m = c .before .before .before .match .rest in
     over-compares (a .values .now) (a .sizes .now) (a .shifts .now) (a .bits .now) (a .before .now) (q .pre) (a .node) _ (m .0 .0 .0 .0 .1) (m .0 .0 .0 .1) (m .0 .0 .1) (m .0 .1) (m .1)
-    (subst (λ (x : Operand). Lanes (comparedIn (opOf (a .node)) x (operandIn (a .values .now) (a .sizes .now) (a .shifts .now) (a .bits .now) (secondOf (a .node)))) (c .compare .result)) (c .before .before .operand-at .ensures)
-    (subst (λ (y : Operand). Lanes (comparedIn (opOf (a .node)) (c .before .before .operand-at .result) y) (c .compare .result)) (c .before .operand-at2 .ensures) (c .compare .ensures)))
+    (subst (λ (x : Operand). Lanes (comparedIn (opOf (a .node)) x (operandIn (a .values .now) (a .sizes .now) (a .shifts .now) (a .bits .now) (secondOf (a .node)))) (c .compare-all .result)) (c .before .before .operand-at .ensures)
+    (subst (λ (y : Operand). Lanes (comparedIn (opOf (a .node)) (c .before .before .operand-at .result) y) (c .compare-all .result)) (c .before .operand-at2 .ensures) (c .compare-all .ensures)))
 
 pub says-spec : {M : Type 1} → statement M
 says-spec =
@@ -117,7 +117,7 @@ says-spec =
     or-requires
     operand-at-requires
     operand-at-requires-2
-    compare-requires
+    compare-all-requires
     returns
     returns-2
     returns-3

@@ -1,4 +1,5 @@
--- Laws of numbers by their bits. In order: bits of a field; the number of an operand, below and above its field; two numbers with one bit more.
+-- Laws of numbers by their bits. In order: bits of a field; the number of an operand, below and above its field, and
+-- where it is the same in every word of 64 lanes; two numbers with one bit more.
 use mathlib.Core.Path.{_≡_, refl, sym, ap, _∙_}
 use mathlib.Core.Bool.{Bool, true, false, not, _&&_, _||_, xor}
 use Prim.Native.Nat.{ℕ, zero, suc, _+_, _-_, _*_, _/_, _%_, _^_, _≤_, _<_}
@@ -71,6 +72,27 @@ number-plain o v e =
   where
     one : (m u : ℕ) → m / 2 ^ 0 * 2 ^ 0 + u % 2 ^ 0 ≡ m
     one m u = omega arith
+
+-- a field that ends at bit 6 or before it looks at nothing else
+low-field : (v s b : ℕ) → s + b ≤ 6 → v / 2 ^ s % 2 ^ b ≡ v % 2 ^ 6 / 2 ^ s % 2 ^ b
+low-field v s b h =
+    let d = 6 - (b + s) in
+    let e : d + (b + s) ≡ 6 = omega arith in
+    sym (field v b s)
+    ∙ ap (λ (z : ℕ). z / 2 ^ s) (sym (mod-mod-pow v d (b + s)))
+    ∙ ap (λ (n : ℕ). v % 2 ^ n % 2 ^ (b + s) / 2 ^ s) e
+    ∙ field (v % 2 ^ 6) b s
+
+-- so it is the same in every word
+pub number-alike : (o : Operand) → o .shift + o .bits ≤ 6 → (w j : ℕ) → numberIn o (64 * w + j) ≡ numberIn o j
+unfolding numberIn
+number-alike o h w j =
+    let e : (64 * w + j) % 2 ^ 6 ≡ j % 2 ^ 6 = omega arith in
+    ap (λ (z : ℕ). o .number / 2 ^ o .bits * 2 ^ o .bits + z)
+    (low-field (64 * w + j) (o .shift) (o .bits) h ∙ ap (λ (z : ℕ). z / 2 ^ o .shift % 2 ^ o .bits) e ∙ sym (low-field j (o .shift) (o .bits) h))
+
+pub plain-alike : (o : Operand) → o .bits ≡ 0 → (w j : ℕ) → numberIn o (64 * w + j) ≡ numberIn o j
+plain-alike o e w j = number-plain o (64 * w + j) e ∙ sym (number-plain o j e)
 
 two : (P : ℕ → Type 0) → P 0 → P 1 → (q : ℕ) → q < 2 → P q
 two P a b zero h = a

@@ -4,7 +4,8 @@ use mathlib.Core.Path.{_≡_}
 use mathlib.Core.Bool.{Bool}
 use mathlib.Core.List.{List, map}
 use Prim.Native.Nat.{ℕ, _+_, _*_, _/_, _%_, _^_, _<_}
-use lib.ListN.{getD}
+use lib.ListN.{getD, set}
+use Rattle.bits.specs.Packed.{tab}
 use Rattle.lanes.specs.Lanes.{bitOf}
 use Rattle.policy.specs.Policy.{Lists}
 use Rattle.policy.specs.Nodes.{opOf, firstOf, secondOf}
@@ -44,6 +45,22 @@ unfoldable pub nodeIn : List ℕ → List ℕ → List ℕ → List ℕ → List
 nodeIn values sizes shifts bits before node w j =
     joined (map (λ x. bitOf x j) before) node
     (comparedIn (opOf node) (operandIn values sizes shifts bits (firstOf node)) (operandIn values sizes shifts bits (secondOf node)) (64 * w + j))
+
+-- whether lane v of node a is set, in an array of four words a node
+unfoldable pub laneAt : List ℕ → ℕ → ℕ → Bool
+laneAt t a v = bitOf (getD t (4 * a + v / 64) 0) (v % 64)
+
+-- such an array after the words of x are stored at node a
+unfoldable pub storedAt : List ℕ → ℕ → List ℕ → List ℕ
+storedAt t a x = set (set (set (set t (4 * a) (getD x 0 0)) (4 * a + 1) (getD x 1 0)) (4 * a + 2) (getD x 2 0)) (4 * a + 3) (getD x 3 0)
+
+-- word w of each node of such an array
+unfoldable pub wordsOf : List ℕ → ℕ → List ℕ
+wordsOf t w = tab (λ a. getD t (4 * a + w) 0) 0 256
+
+-- what a node says in the lane of v, by the tables of all operands and the words of the nodes before it, four a node
+unfoldable pub nodeOver : List ℕ → List ℕ → List ℕ → List ℕ → List ℕ → ℕ → ℕ → Bool
+nodeOver values sizes shifts bits before node v = nodeIn values sizes shifts bits (wordsOf before (v / 64)) node (v / 64) (v % 64)
 
 -- the tables give the number of each operand in each lane, with the lane's number put in, and the size of its list
 pub record Operands (c : Lists) (h : Holders) (at : ℕ) (values sizes shifts bits : List ℕ) : Type 0 where

@@ -16,6 +16,7 @@ mod listed;
 mod node;
 mod operand;
 mod set;
+mod wide;
 mod word;
 
 use formulas::Holders;
@@ -122,6 +123,27 @@ fn each_word<'a, 'b>(
     r
 }
 
+// The same. Where more than one word is asked about, the nodes are gone through once for all four.
+fn answered<'a, 'b>(
+    values: &'a [u8; 256],
+    sizes: &'a [u8; 256],
+    shifts: &'b [u8; 256],
+    bits: &'b [u8; 256],
+    nodes: &[u32],
+    f: usize,
+    n: u8,
+    among: [u64; 4],
+) -> [u64; 4]
+    ensures { λ r. ⌜ ((c : Lists) (h : Holders) (at : ℕ) → Operands c h at (now (values .entry)) (now (sizes .entry)) (now (shifts .entry)) (now (bits .entry)) → Lanes (λ v. (laneOf among v && holds c (withValue h at v) (nodesOf (now (nodes .entry)) f n))) r) ⌝ }
+{
+    if n <= 64 {
+        if among[1] | among[2] | among[3] != 0 {
+            return lanes::and(among, wide::held(values, sizes, shifts, bits, nodes, f, n));
+        }
+    }
+    each_word(values, sizes, shifts, bits, nodes, f, n, among)
+}
+
 // Of the values that are asked about, those of which formula f is true where they are put in at the place `at`, its n nodes standing among the lent
 // ones as in rules.
 pub fn held_by(
@@ -138,5 +160,5 @@ pub fn held_by(
     let o = operands_of(classes, with_value(holders, at, 0));
     let h = put_at(at);
     let l = fields_of(class_of(classes, h), h);
-    each_word(&o.values, &o.sizes, &l.shifts, &l.bits, nodes, f, n, among)
+    answered(&o.values, &o.sizes, &l.shifts, &l.bits, nodes, f, n, among)
 }

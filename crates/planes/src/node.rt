@@ -40,7 +40,13 @@ fn compare(planes: &[u64], op: u32, x: Operand, y: Operand) -> u64
 }
 
 // Operand x, by the tables of all operands.
-fn operand_at(values: &[u8], sizes: &[u8], shifts: &[u8], bits: &[u8], x: usize) -> Operand
+pub(super) fn operand_at(
+    values: &[u8],
+    sizes: &[u8],
+    shifts: &[u8],
+    bits: &[u8],
+    x: usize,
+) -> Operand
     ensures { λ r. ⌜ r ≡ operandIn (now (values .entry)) (now (sizes .entry)) (now (shifts .entry)) (now (bits .entry)) x ⌝ }
 {
     Operand {

@@ -28,8 +28,8 @@ class-of-requires c κs = search needs
 fields-of-requires : tie.Need-fields-of-requires
 fields-of-requires c κs = search needs
 
-each-word-requires : tie.Need-each-word-requires
-each-word-requires c κs = search needs
+answered-requires : tie.Need-answered-requires
+answered-requires c κs = search needs
 
 returns : tie.Need-returns
 returns c =
@@ -39,7 +39,7 @@ returns c =
     let o = q .before .before .before .operands-of in
     let h = q .before .before .put-at in
     let f = q .fields-of in
-    c .each-word .ensures l (a .holders) (a .at)
+    c .answered .ensures l (a .holders) (a .at)
     (tables-are l (a .holders) (a .at) _ _ _ _
     (o .ensures .0 ∙ ap (λ (x : Holders). tab (operand l x) 0 256) (q .before .before .before .before .with-value .ensures))
     (o .ensures .1)
@@ -55,5 +55,5 @@ held-by-spec =
     put-at-requires
     class-of-requires
     fields-of-requires
-    each-word-requires
+    answered-requires
     returns)

@@ -1,0 +1,47 @@
+-- `planes::answered` meets its contract: both ways answer the same.
+use mathlib.Core.Path.{_≡_, ap, _∙_}
+use mathlib.Core.Bool.{Bool, _&&_}
+use Rattle.lanes.specs.Lanes.{laneOf}
+use borrow.Author.Needs.{needs}
+use Rattle.planes.proofs.answered.Statement.{statement}
+use Rattle.planes.proofs.answered.Tie as tie
+
+array-read-if2 : tie.Need-array-read-if2
+array-read-if2 c = search needs
+
+array-read-if2-2 : tie.Need-array-read-if2-2
+array-read-if2-2 c = search needs
+
+array-read-if2-3 : tie.Need-array-read-if2-3
+array-read-if2-3 c = search needs
+
+held-requires : tie.Need-held-requires
+held-requires c κs = search needs
+
+and-requires : tie.Need-and-requires
+and-requires c κs = search needs
+
+returns : tie.Need-returns
+returns c l h at T =
+    let A = c .and .ensures in
+    let a = c .before .before .before .before .before .before .before .before .before .args in
+    record { long = A .long; each = λ v m. A .each v m ∙ ap (λ (b : Bool). laneOf (a .t8) v && b) (c .before .held .ensures l h at T .each v m) }
+
+each-word-requires : tie.Need-each-word-requires
+each-word-requires c κs = search needs
+
+returns-2 : tie.Need-returns-2
+returns-2 c = search needs
+
+pub answered-spec : {M : Type 1} → statement M
+answered-spec =
+    tie.close
+    (tie.spec
+    array-read-if2
+    array-read-if2-2
+    array-read-if2-3
+    held-requires
+    and-requires
+    returns
+    each-word-requires
+    returns-2)

@@ -40,7 +40,7 @@ fn answer(s: &[bool], k: usize) -> bool
 }
 
 // What a comparison says of the values x and y, whose lists have m and n values.
-fn compare(op: u32, x: u64, m: u64, y: u64, n: u64) -> bool
+pub fn compare(op: u32, x: u64, m: u64, y: u64, n: u64) -> bool
     ensures { λ r. ⌜ r ≡ comparedBy op x m y n ⌝ }
 {
     match op {

@@ -20,6 +20,7 @@ use Rattle.formulas.specs.Parts.{comparedBy, joinedBy, joined, Said}
 use Rattle.formulas.specs.declared.Holders.{Holders}
 use Rattle.formulas.proofs.Laws.{says-joined, said-start, said-next}
 use Rattle.planes.specs.Put.{withValue}
+use Rattle.planes.proofs.Numbers.{number-plain}
 use Rattle.planes.specs.Word.{Operands, operandIn, numberIn, comparedIn, nodeIn}
 use Rattle.planes.specs.declared.operand.Operand.{Operand}
 
@@ -51,6 +52,11 @@ module _ (op : ℕ) (x y : Operand) (v : ℕ) where
   pub compared-none : (op ≡ 5 → ⊥) → (op ≡ 6 → ⊥) → (op ≡ 7 → ⊥) → (op ≡ 8 → ⊥) → (op ≡ 9 → ⊥) → (op ≡ 10 → ⊥) → comparedIn op x y v ≡ false
   unfolding comparedIn comparedBy
   compared-none a b c d e f = simp (ne-eqb op 5 a, ne-eqb op 6 b, ne-eqb op 7 c, ne-eqb op 8 d, ne-eqb op 9 e, ne-eqb op 10 f)
+
+  -- no lane changes the operands
+  pub compared-plain : x .bits ≡ 0 → y .bits ≡ 0 → comparedIn op x y v ≡ comparedBy op (x .number) (x .size) (y .number) (y .size)
+  unfolding comparedIn
+  compared-plain e f = rw (number-plain x v e, number-plain y v f) refl
 
 -- at most is below or the same
 pub most-is : (x y : ℕ) → ltb x y || eqb x y ≡ leb x y

@@ -123,7 +123,18 @@ fn each_word<'a, 'b>(
     r
 }
 
-// The same. Where more than one word is asked about, the nodes are gone through once for all four.
+// Whether some value of at least three of the four words is asked about. Both ways answer the same, so nothing is promised of it.
+fn most_words(among: [u64; 4]) -> bool {
+    if among[1] == 0 {
+        return among[0] != 0 && among[2] != 0 && among[3] != 0;
+    }
+    if among[2] == 0 {
+        return among[0] != 0 && among[3] != 0;
+    }
+    among[0] | among[3] != 0
+}
+
+// The same. Where most words are asked about, the nodes are gone through once for all four.
 fn answered<'a, 'b>(
     values: &'a [u8; 256],
     sizes: &'a [u8; 256],
@@ -137,7 +148,7 @@ fn answered<'a, 'b>(
     ensures { λ r. ⌜ ((c : Lists) (h : Holders) (at : ℕ) → Operands c h at (now (values .entry)) (now (sizes .entry)) (now (shifts .entry)) (now (bits .entry)) → Lanes (λ v. (laneOf among v && holds c (withValue h at v) (nodesOf (now (nodes .entry)) f n))) r) ⌝ }
 {
     if n <= 64 {
-        if among[1] | among[2] | among[3] != 0 {
+        if most_words(among) {
             return lanes::and(among, wide::held(values, sizes, shifts, bits, nodes, f, n));
         }
     }

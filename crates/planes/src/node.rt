@@ -13,10 +13,11 @@ use super::operand::order;
 use super::set::member;
 use super::set::subset;
 use super::word::at;
+use super::word::whole;
 use policy::shape::byte_at;
 
-// Where a comparison of operands holds.
-fn compare(planes: &[u64], op: u32, x: Operand, y: Operand) -> u64
+// Where a comparison of operands holds, bit by bit.
+fn by_bits(planes: &[u64], op: u32, x: Operand, y: Operand) -> u64
     ensures { λ r. ⌜ Told (now (planes .entry)) (comparedIn op x y) r ⌝ }
 {
     match op {
@@ -37,6 +38,24 @@ fn compare(planes: &[u64], op: u32, x: Operand, y: Operand) -> u64
         10 => subset(planes, x, y) & (subset(planes, y, x) ^ 0xFFFF_FFFF_FFFF_FFFF),
         _ => 0,
     }
+}
+
+// Where a comparison of operands holds. Where no lane changes them their numbers are compared once.
+pub(super) fn compare(planes: &[u64], op: u32, x: Operand, y: Operand) -> u64
+    ensures { λ r. ⌜ Told (now (planes .entry)) (comparedIn op x y) r ⌝ }
+{
+    if x.bits == 0 {
+        if y.bits == 0 {
+            return whole(formulas::node::compare(
+                op,
+                x.number as u64,
+                x.size as u64,
+                y.number as u64,
+                y.size as u64,
+            ));
+        }
+    }
+    by_bits(planes, op, x, y)
 }
 
 // Operand x, by the tables of all operands.

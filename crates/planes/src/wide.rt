@@ -10,11 +10,9 @@ ghost use Rattle.formulas.specs.Meaning.{holds};
 ghost use Rattle.formulas.specs.declared.Holders.{Holders};
 ghost use Rattle.planes.specs.Put.{withValue};
 ghost use Rattle.planes.specs.Word.{Word, Operands, numberIn, comparedIn, laneAt, storedAt, nodeOver};
+use super::node::compare;
 use super::node::operand_at;
 use super::operand::Operand;
-use super::operand::order;
-use super::set::member;
-use super::set::subset;
 use super::word::planes_of;
 
 // Whether an operand is seen to be the same in every word: its field ends at bit 6, where the words begin to differ, or before it.
@@ -33,24 +31,7 @@ fn compare_in(w: usize, op: u32, x: Operand, y: Operand) -> u64
     ensures { λ r. ⌜ Word (comparedIn op x y) w r ⌝ }
 {
     let planes = planes_of(w);
-    match op {
-        5 => {
-            let o = order(&planes, x, y);
-            o.same
-        }
-        6 => {
-            let o = order(&planes, x, y);
-            o.below
-        }
-        7 => {
-            let o = order(&planes, x, y);
-            o.below | o.same
-        }
-        8 => member(&planes, x, y),
-        9 => subset(&planes, x, y),
-        10 => subset(&planes, x, y) & (subset(&planes, y, x) ^ 0xFFFF_FFFF_FFFF_FFFF),
-        _ => 0,
-    }
+    compare(&planes, op, x, y)
 }
 
 // Where a comparison of operands holds. Where both are the same in every word, one word is the answer in all.

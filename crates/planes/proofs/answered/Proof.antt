@@ -6,14 +6,8 @@ use borrow.Author.Needs.{needs}
 use Rattle.planes.proofs.answered.Statement.{statement}
 use Rattle.planes.proofs.answered.Tie as tie
 
-array-read-if2 : tie.Need-array-read-if2
-array-read-if2 c = search needs
-
-array-read-if2-2 : tie.Need-array-read-if2-2
-array-read-if2-2 c = search needs
-
-array-read-if2-3 : tie.Need-array-read-if2-3
-array-read-if2-3 c = search needs
+most-words-requires : tie.Need-most-words-requires
+most-words-requires c κs = search needs
 
 held-requires : tie.Need-held-requires
 held-requires c κs = search needs
@@ -24,8 +18,8 @@ and-requires c κs = search needs
 returns : tie.Need-returns
 returns c l h at T =
     let A = c .and .ensures in
-    let a = c .before .before .before .before .before .before .before .before .before .args in
-    record { long = A .long; each = λ v m. A .each v m ∙ ap (λ (b : Bool). laneOf (a .t8) v && b) (c .before .held .ensures l h at T .each v m) }
+    let a = c .before .before .before .before .before .before .before .before .before .before .args in
+    record { long = A .long; each = λ v m. A .each v m ∙ ap (λ (b : Bool). laneOf (a .among) v && b) (c .before .held .ensures l h at T .each v m) }
 
 each-word-requires : tie.Need-each-word-requires
 each-word-requires c κs = search needs
@@ -37,9 +31,7 @@ pub answered-spec : {M : Type 1} → statement M
 answered-spec =
     tie.close
     (tie.spec
-    array-read-if2
-    array-read-if2-2
-    array-read-if2-3
+    most-words-requires
     held-requires
     and-requires
     returns

@@ -42,7 +42,7 @@ pub fn values_of(class: Class) -> [u64; 4]
 }
 
 // The attributes of the holder at the place `at`.
-pub fn class_of(classes: Classes, at: u8) -> Class
+fn class_of(classes: Classes, at: u8) -> Class
     ensures { λ r. ⌜ attrsOf r ≡ ofHolder (listsOf classes) at ⌝ }
 {
     if at == 0 {

@@ -6,7 +6,7 @@ use Prim.Native.Nat.{ℕ, _<_}
 use Rattle.runs.specs.Model.{Model}
 use Rattle.search.specs.Items.{growItems, readyOf, oneFound, anyFound}
 use Rattle.search.specs.declared.queue.Found.{Found}
-use Rattle.search.proofs.Laws.{asked-ext, items-ext}
+use Rattle.search.proofs.ItemLaws.{asked-ext, items-ext}
 use Rattle.search.proofs.Turns.{ready-ext, one-is, any-is}
 
 module _ (m : Model) (f g : ℕ → Bool) (same : (v : ℕ) → v < 256 → f v ≡ g v) where

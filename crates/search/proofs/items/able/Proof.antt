@@ -1,6 +1,6 @@
 -- `search::able` meets its contract.
 use Rattle.allowed.specs.Basis.{modelBy}
-use Rattle.search.proofs.Laws.{able-made, able-changed}
+use Rattle.search.proofs.ItemLaws.{able-made, able-changed}
 use borrow.Author.Needs.{needs}
 use Rattle.search.proofs.items.able.Statement.{statement}
 use Rattle.search.proofs.items.able.Tie as tie

@@ -9,7 +9,7 @@ use Rattle.allowed.specs.Basis.{modelBy}
 use Rattle.search.specs.Queue.{nothing}
 use Rattle.search.specs.Items.{asked, startRoots, growItems, readyOf}
 use Rattle.search.specs.declared.queue.Found.{Found}
-use Rattle.search.proofs.Laws.{asked-ext, items-ext, ready-lanes, ready-had, any-is}
+use Rattle.search.proofs.ItemLaws.{asked-ext, items-ext, ready-lanes, ready-had, any-is}
 use borrow.Author.Needs.{needs}
 use Rattle.search.proofs.items.any_item.Statement.{statement}
 use Rattle.search.proofs.items.any_item.Tie as tie

@@ -11,7 +11,8 @@ use Rattle.lanes.proofs.Laws.{lowest-le, Rest, rest-all, rest-before, rest-on, 
 use Rattle.allowed.specs.Basis.{modelBy}
 use Rattle.search.specs.Queue.{unmet}
 use Rattle.search.specs.Items.{Had, lastAble, asked}
-use Rattle.search.proofs.Laws.{rest-here, unmet-lanes, unmet-listed, able-last, asked-start, asked-next}
+use Rattle.search.proofs.Laws.{rest-here, unmet-lanes, unmet-listed}
+use Rattle.search.proofs.ItemLaws.{able-last, asked-start, asked-next}
 use borrow.Author.Needs.{needs}
 use Rattle.search.proofs.items.asked.Statement.{statement}
 use Rattle.search.proofs.items.asked.Tie as tie

@@ -9,7 +9,8 @@ use Rattle.lanes.specs.Lanes.{laneOf, someBelow}
 use Rattle.allowed.specs.Basis.{modelBy, InLists}
 use Rattle.search.specs.Queue.{unmet}
 use Rattle.search.specs.Items.{Had, growItems}
-use Rattle.search.proofs.Laws.{unmet-some, items-start, items-turn}
+use Rattle.search.proofs.Laws.{unmet-some}
+use Rattle.search.proofs.ItemLaws.{items-start, items-turn}
 use borrow.Author.Needs.{needs}
 use Rattle.search.proofs.items.grow.Statement.{statement}
 use Rattle.search.proofs.items.grow.Tie as tie

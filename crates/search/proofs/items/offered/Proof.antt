@@ -9,7 +9,8 @@ use Rattle.lanes.specs.Lanes.{laneOf, someBelow}
 use Rattle.allowed.specs.Basis.{modelBy, InLists}
 use Rattle.search.specs.Queue.{unmet}
 use Rattle.search.specs.Items.{offered}
-use Rattle.search.proofs.Laws.{unmet-some, unmet-lanes, offered-start, offered-turn, spread-modifies}
+use Rattle.search.proofs.Laws.{unmet-some, unmet-lanes, spread-modifies}
+use Rattle.search.proofs.ItemLaws.{offered-start, offered-turn}
 use borrow.Author.Needs.{needs}
 use Rattle.search.proofs.items.offered.Statement.{statement}
 use Rattle.search.proofs.items.offered.Tie as tie

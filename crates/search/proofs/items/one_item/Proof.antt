@@ -6,7 +6,7 @@ use Rattle.allowed.specs.Basis.{modelBy}
 use Rattle.search.specs.Queue.{pushed}
 use Rattle.search.specs.Items.{growItems, readyOf}
 use Rattle.search.specs.declared.queue.Found.{Found}
-use Rattle.search.proofs.Laws.{items-ext, ready-lanes, ready-had, one-is}
+use Rattle.search.proofs.ItemLaws.{items-ext, ready-lanes, ready-had, one-is}
 use borrow.Author.Needs.{needs}
 use Rattle.search.proofs.items.one_item.Statement.{statement}
 use Rattle.search.proofs.items.one_item.Tie as tie

@@ -10,7 +10,7 @@ use lib.ListN.{getD}
 use Rattle.policy.specs.Rules.{valuesOf}
 use Rattle.allowed.proofs.Laws.{value-at}
 use Rattle.search.specs.Items.{startRoots}
-use Rattle.search.proofs.Laws.{start-start, start-turn}
+use Rattle.search.proofs.ItemLaws.{start-start, start-turn}
 use borrow.Author.Needs.{needs}
 use Rattle.search.proofs.items.starting.Statement.{statement}
 use Rattle.search.proofs.items.starting.Tie as tie

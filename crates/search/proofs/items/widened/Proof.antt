@@ -6,7 +6,8 @@ use Rattle.lanes.specs.Lanes.{laneOf, countBelow}
 use Rattle.lanes.proofs.Laws.{lanes-own, count-lanes}
 use Rattle.allowed.specs.Basis.{modelBy}
 use Rattle.search.specs.Queue.{unmet}
-use Rattle.search.proofs.Laws.{unmet-lanes, widened-offered, widened-asked}
+use Rattle.search.proofs.Laws.{unmet-lanes}
+use Rattle.search.proofs.ItemLaws.{widened-offered, widened-asked}
 use borrow.Author.Needs.{needs}
 use Rattle.search.proofs.items.widened.Statement.{statement}
 use Rattle.search.proofs.items.widened.Tie as tie

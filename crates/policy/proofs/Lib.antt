@@ -2,3 +2,4 @@ pub mod Laws  -- rules in memory, widths, values
 pub mod NodeLaws  -- which nodes a formula may have
 pub mod PolicyLaw  -- the rule file's format is lawful
 pub mod Numbers  -- which numbers writing can give
+pub mod ReadNumbers  -- which numbers reading can give

@@ -29,6 +29,15 @@ pub reading-rules : {C : Type 0} (s : List ℕ) (p : Policy) → reading s ≡ r
 unfolding reading
 reading-rules s p e k = answered-rules (readFile policyFormat s) p e k
 
+answered-refusal : {C : Type 0} (r : Res Policy) (n : ℕ) → answered r ≡ refusal n → ((q : ℕ) → r ≡ bad n q → C) → C
+unfolding answered
+answered-refusal (ok a q) n e k = absurd (let z : _≡_ {A = ℕ} 0 1 = cc in omega arith)
+answered-refusal (bad m q) n e k = k q (let h : m ≡ n = cc in ap (λ (x : ℕ). bad x q) h)
+
+pub reading-refusal : {C : Type 0} (s : List ℕ) (n : ℕ) → reading s ≡ refusal n → ((q : ℕ) → readFile policyFormat s ≡ bad n q → C) → C
+unfolding reading
+reading-refusal s n e k = answered-refusal (readFile policyFormat s) n e k
+
 pub rules-reading : (s : List ℕ) (p : Policy) (q : ℕ) → readFile policyFormat s ≡ ok p q → reading s ≡ rules p
 unfolding reading answered
 rules-reading s p q e = rw e refl

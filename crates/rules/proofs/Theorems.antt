@@ -1,19 +1,24 @@
 -- The claims of specs/Claims.antt, one line each: the laws behind them are proved once, for every lawful format.
 use mathlib.Core.Path.{sym, _∙_}
+use Rattle.format.proofs.Refuses.{refuses-file}
 use Rattle.format.proofs.Round.{write-read, read-write, write-refused, refused-judged}
 use Rattle.policy.proofs.Laws.{fewest-enough, fewest-least}
 use Rattle.policy.proofs.Numbers.{gives-policy, given-above}
+use Rattle.policy.proofs.ReadNumbers.{Told, told-1, told-3, refuses-policy}
 use Rattle.policy.proofs.PolicyLaw.{lawful-policy}
 use Rattle.policy.specs.File.{policyFormat}
 use Rattle.policy.specs.Rules.{policyOf}
-use Rattle.rules.specs.Claims.{BytesAgain, RulesAgain, WritingNumbers, WritingRefusesAsReading, SizeTakesFewestBits}
-use Rattle.rules.proofs.Laws.{reading-rules, rules-reading, refusal-reading, writing-is}
+use Rattle.rules.specs.Claims.{BytesAgain, RulesAgain, ReadingNumbers, WritingNumbers, WritingRefusesAsReading, SizeTakesFewestBits}
+use Rattle.rules.proofs.Laws.{reading-rules, reading-refusal, rules-reading, refusal-reading, writing-is}
 
 pub bytes-again : BytesAgain
 bytes-again s p b e = reading-rules s p e (λ q f. writing-is p ∙ read-write policyFormat lawful-policy p s q b f .0)
 
 pub rules-again : RulesAgain
 rules-again p s e = rules-reading s p _ (write-read policyFormat lawful-policy p s (sym (writing-is p) ∙ e))
+
+pub reading-numbers : ReadingNumbers
+reading-numbers s n e = reading-refusal s n e (λ q d. refuses-file Told policyFormat told-1 told-3 refuses-policy s n q d)
 
 pub writing-numbers : WritingNumbers
 writing-numbers r n e = gives-policy r .only n (refused-judged policyFormat (policyOf r) n (sym (writing-is (policyOf r)) ∙ e))

@@ -31,6 +31,10 @@ abbrev pub WritingRefusesAsReading : Type 0
 WritingRefusesAsReading =
     (r : Rules) (n : ℕ) → writing (policyOf r) ≡ refused n → Fit (policyFormat .fields (policyOf r)) → reading (packed (policyFormat .fields (policyOf r))) ≡ refusal n
 
+-- the numbers that reading gives: never 0, which stands for accepted where an answer is a number [01:When a number is given instead, table]
+abbrev pub ReadingNumbers : Type 0
+ReadingNumbers = (s : List ℕ) (n : ℕ) → reading s ≡ refusal n → (1 ≤ n) × (n ≤ 8)
+
 -- the numbers that writing gives besides 11: never 1 or 3, which are said of bytes, and never 9
 abbrev pub WritingNumbers : Type 0
 WritingNumbers = (r : Rules) (n : ℕ) → writing (policyOf r) ≡ refused n → (n ≡ 2) ⊎ ((4 ≤ n) × (n ≤ 8))

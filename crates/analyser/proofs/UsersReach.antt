@@ -10,7 +10,7 @@ use native.Mathlib.Omega.{arith}
 use borrow.Author.Tests.{lt-ltb, le-ltb}
 use lib.ListN.{length, getD}
 use Rattle.lanes.specs.Lanes.{laneOf, countBelow}
-use Rattle.lanes.proofs.Laws.{count-split, count-ext}
+use Rattle.lanes.proofs.Counts.{count-split, count-ext}
 use Rattle.policy.specs.Policy.{Session}
 use Rattle.runs.specs.Model.{Model}
 use Rattle.runs.specs.State.{opened, State}

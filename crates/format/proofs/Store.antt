@@ -12,7 +12,8 @@ use lib.Dec.{eqb, ltb}
 use lib.ListN.{length, drop}
 use Rattle.bits.specs.Packed.{widths, packed, puts}
 use Rattle.bits.proofs.Packed.{widths-app}
-use Rattle.bits.proofs.Stored.{length-puts, puts-app, puts-packed}
+use Rattle.bits.proofs.Filled.{puts-packed}
+use Rattle.bits.proofs.Stored.{length-puts, puts-app}
 use Rattle.format.specs.Format.{Format, bytes, refused, unless, first, field, check, rowsJudge, rowsFields, rows, pair, via, zeros, bytesOr, writeFile}
 use Rattle.format.specs.Steps.{judged, faultOf, Stores}
 use Rattle.format.specs.declared.Cursor.{Cursor}

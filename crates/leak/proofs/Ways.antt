@@ -13,7 +13,7 @@ use lib.Seq.{set-append-seam, set-set}
 use Rattle.bits.specs.Packed.{tab}
 use Rattle.bits.proofs.Packed.{length-tab, tab-zero, tab-first}
 use Rattle.lanes.specs.Lanes.{laneOf, countBelow}
-use Rattle.lanes.proofs.Laws.{count-below-le}
+use Rattle.lanes.proofs.Counts.{count-below-le}
 use Rattle.runs.specs.Model.{Model}
 use Rattle.runs.specs.State.{opened, State, sessionAt}
 use Rattle.runs.specs.Edge.{opensWith}

@@ -9,7 +9,8 @@ use borrow.Author.Tests.{le-leb, lt-leb}
 use lib.Dec.{ltb}
 use lib.ListN.{getD, length}
 use Rattle.lanes.specs.Lanes.{laneOf, Lanes, someBelow, highestOf, countBelow}
-use Rattle.lanes.proofs.Laws.{lanes-as, last-ext, highest-lanes, count-ext}
+use Rattle.lanes.proofs.Laws.{lanes-as, last-ext, highest-lanes}
+use Rattle.lanes.proofs.Counts.{count-ext}
 use Rattle.runs.specs.Model.{Model}
 use Rattle.runs.specs.Edge.{makesWith, modifiesTo}
 use Rattle.search.specs.Queue.{nothing, pushed, unmet, spread}

@@ -12,7 +12,8 @@ use lib.Dec.{ltb, leb, eqb}
 use lib.ListN.{length, getD, length-set, getD-replicate}
 use lib.Seq.{getD-set-same, getD-set-other}
 use Rattle.lanes.specs.Lanes.{laneOf, bitOf, someBelow, lastBelow, countBelow}
-use Rattle.lanes.proofs.Laws.{some-none, count-below-le, count-ext}
+use Rattle.lanes.proofs.Laws.{some-none}
+use Rattle.lanes.proofs.Counts.{count-below-le, count-ext}
 use Rattle.lanes.proofs.Bits.{bit-zero}
 use Rattle.lanes.proofs.Words.{lanes-added}
 use Rattle.runs.specs.Model.{Model}

@@ -3,7 +3,8 @@ use mathlib.Core.Path.{_≡_, sym, _∙_}
 use native.Mathlib.Omega.{arith}
 use lib.ListN.{length}
 use Rattle.lanes.specs.Lanes.{laneOf, countBelow}
-use Rattle.lanes.proofs.Laws.{lanes-own, count-lanes}
+use Rattle.lanes.proofs.Laws.{lanes-own}
+use Rattle.lanes.proofs.Counts.{count-lanes}
 use Rattle.allowed.specs.Basis.{modelBy}
 use Rattle.search.specs.Queue.{unmet}
 use Rattle.search.proofs.Laws.{unmet-lanes}

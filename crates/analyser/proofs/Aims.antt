@@ -19,7 +19,7 @@ use Rattle.runs.specs.Reach.{Brought}
 use Rattle.runs.specs.Outcome.{stop}
 use Rattle.verdict.proofs.Below.{not-both}
 use Rattle.allowed.specs.Allowed.{modelOf}
-use Rattle.monitor.specs.Start.{beginning}
+use Rattle.starting.specs.Start.{beginning}
 use Rattle.replay.specs.Question.{whoOf, whichOf}
 use Rattle.replay.specs.declared.question.Question.{Question}
 use Rattle.search.specs.Sessions.{sessionsFound}

@@ -24,7 +24,7 @@ use Rattle.runs.specs.Outcome.{Below}
 use Rattle.verdict.proofs.Below.{not-both, both-of}
 use Rattle.verdict.proofs.Decided.{star-map, changes-to}
 use Rattle.allowed.specs.Allowed.{modelOf}
-use Rattle.monitor.specs.Start.{beginning}
+use Rattle.starting.specs.Start.{beginning}
 use Rattle.replay.specs.Question.{partsOf, whoOf, whichOf, whoAmong, whichAmong, partsAsk, asks}
 use Rattle.replay.specs.declared.question.Question.{Question}
 use Rattle.replay.proofs.Laws.{session-among, user-among, nobody-among, who-session, who-user, who-anyone}

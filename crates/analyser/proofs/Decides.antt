@@ -20,9 +20,9 @@ use Rattle.verdict.specs.Meaning.{Counts}
 use Rattle.verdict.specs.Verdict.{allBrought, pairs, leaks, values}
 use Rattle.verdict.proofs.Theorems.{verdict-is-computed, pairs-are-counted, values-are-counted}
 use Rattle.allowed.specs.Allowed.{modelOf}
-use Rattle.monitor.specs.Start.{beginning}
-use Rattle.monitor.specs.declared.Outcome.the-variants as Outcome
-use Rattle.monitor.proofs.Begin.{file-sound}
+use Rattle.live.specs.declared.Outcome.the-variants as Outcome
+use Rattle.steps.proofs.Files.{file-sound}
+use Rattle.starting.specs.Start.{beginning}
 use Rattle.replay.specs.Question.{partsOf, whoOf, whichOf, asks}
 use Rattle.replay.specs.Replay.{replayed}
 use Rattle.replay.specs.Claims.{Enough}

@@ -16,7 +16,7 @@ use Rattle.runs.specs.Reach.{Brought}
 use Rattle.verdict.specs.Verdict.{allBrought, leaks}
 use Rattle.verdict.proofs.Theorems.{brought-is-computed}
 use Rattle.allowed.specs.Allowed.{modelOf}
-use Rattle.monitor.specs.Start.{beginning}
+use Rattle.starting.specs.Start.{beginning}
 use Rattle.replay.specs.Question.{partsOf, whoOf, whichOf}
 use Rattle.replay.specs.Claims.{RunLeak}
 use Rattle.replay.specs.declared.question.Question.{Question}

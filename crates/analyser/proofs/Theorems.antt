@@ -14,8 +14,8 @@ use Rattle.runs.specs.Reach.{Brought}
 use Rattle.verdict.specs.Verdict.{allBrought, leaks}
 use Rattle.verdict.proofs.Theorems.{verdict-is-computed, brought-is-computed}
 use Rattle.allowed.specs.Allowed.{modelOf}
-use Rattle.monitor.specs.Start.{beginning}
-use Rattle.monitor.proofs.Begin.{file-sound}
+use Rattle.steps.proofs.Files.{file-sound}
+use Rattle.starting.specs.Start.{beginning}
 use Rattle.replay.specs.Question.{partsOf, whoOf, whichOf, asks}
 use Rattle.analyser.specs.Answer.{sessionValues, itemValues, rowsNeeded, Told, refused, decided, told}
 use Rattle.analyser.specs.Claims.{SafeIsNever, LeakIsReal, AnswerByFileAndQuestion}

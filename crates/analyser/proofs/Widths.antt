@@ -19,7 +19,7 @@ use Rattle.lists.specs.Sound.{Sound, startingSession}
 use Rattle.runs.specs.State.{closed, opened, begin, sessionAt, itemAt}
 use Rattle.runs.specs.Outcome.{Below}
 use Rattle.allowed.specs.Allowed.{modelOf}
-use Rattle.monitor.specs.Start.{beginning}
+use Rattle.starting.specs.Start.{beginning}
 use Rattle.analyser.specs.Answer.{sessionValues, itemValues, rowsNeeded}
 use Rattle.analyser.specs.Decide.{rowsFor}
 

@@ -8,7 +8,7 @@ use Rattle.policy.specs.Policy.{Policy, width}
 use Rattle.rules.specs.Answers.{Answer, refusal, rules}
 use Rattle.verdict.specs.Verdict.{allBrought, pairs, leaks, values}
 use Rattle.allowed.specs.Allowed.{modelOf}
-use Rattle.monitor.specs.Start.{beginning}
+use Rattle.starting.specs.Start.{beginning}
 use Rattle.replay.specs.Question.{partsOf, whoOf, whichOf, asks}
 use Rattle.analyser.specs.declared.Verdict.{Verdict}
 use Rattle.analyser.specs.declared.Verdict.the-variants as Verdict

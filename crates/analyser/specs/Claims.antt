@@ -7,7 +7,7 @@ use Rattle.policy.specs.Policy.{Policy}
 use Rattle.rules.specs.Answers.{reading, rules}
 use Rattle.runs.specs.Grant.{Leak}
 use Rattle.allowed.specs.Allowed.{modelOf}
-use Rattle.monitor.specs.Start.{beginning}
+use Rattle.starting.specs.Start.{beginning}
 use Rattle.replay.specs.Question.{partsOf, whoOf, whichOf}
 use Rattle.analyser.specs.Answer.{rowsNeeded, told}
 use Rattle.analyser.specs.Never.{Never}

@@ -13,8 +13,8 @@ use Rattle.runs.specs.Grant.{Fits}
 use Rattle.runs.specs.Outcome.{SessionStands, ItemStands}
 use Rattle.verdict.specs.Meaning.{Counts}
 use Rattle.allowed.specs.Allowed.{modelOf}
-use Rattle.monitor.specs.Start.{beginning}
-use Rattle.monitor.specs.declared.Outcome.the-variants as Outcome
+use Rattle.live.specs.declared.Outcome.the-variants as Outcome
+use Rattle.starting.specs.Start.{beginning}
 use Rattle.replay.specs.Question.{partsOf, whoOf, whichOf}
 use Rattle.replay.specs.Replay.{replayed}
 use Rattle.replay.specs.Claims.{Enough}

@@ -1,8 +1,8 @@
 // Runs a stored list of steps by `monitor::step_with`, each with the next numbers that the one before gave back. Prints for each row what it
 // came to and the next numbers after it, and at the end the cells.
 use libc::STDOUT_FILENO;
-use monitor::Next;
-use monitor::Outcome;
+use live::Next;
+use live::Outcome;
 
 // Rows, each as kind, actor, target, value and spare, and the answer that paper 01 gives, worked out by hand.
 const ROWS: [u64; 12] = [
@@ -57,7 +57,7 @@ fn main() {
     let rows = ROWS;
     let mut sessions: [u64; 2] = [BEFORE; 2];
     let mut items: [u64; 2] = [BEFORE; 2];
-    let begun = monitor::start(file, &mut sessions, &mut items);
+    let begun = starting::start(file, &mut sessions, &mut items);
     let rules = begun.rules;
     let mut next = begun.next;
     let outcome = begun.outcome;

@@ -3,14 +3,10 @@ ghost use mathlib.Core.Path.{_≡_};
 ghost use Rattle.policy.specs.Rules.{policyOf};
 ghost use Rattle.cells.specs.Row.{stepOf};
 ghost use Rattle.allowed.specs.Allowed.{modelOf};
-ghost use Rattle.monitor.specs.Lent.{leaves, lentAs};
-ghost use Rattle.monitor.specs.Step.{making, modifying, accessing};
-use super::Next;
-use super::Outcome;
-use super::Stepped;
+ghost use Rattle.live.specs.Lent.{leaves, lentAs};
+ghost use Rattle.steps.specs.Step.{making, modifying, accessing};
 use super::numbers::is_left;
 use super::numbers::is_next;
-use super::refused;
 use allowed::may_access;
 use allowed::may_make;
 use allowed::may_modify;
@@ -20,6 +16,10 @@ use cells::item_cell;
 use cells::place;
 use cells::session_at;
 use lists::listed;
+use live::Next;
+use live::Outcome;
+use live::Stepped;
+use live::refused;
 use policy::Rules;
 
 // Makes an item with the next number.

@@ -2,7 +2,7 @@
 ghost use mathlib.Core.Path.{_≡_};
 ghost use mathlib.Core.Bool.{_||_};
 ghost use lib.Dec.{eqb};
-ghost use Rattle.monitor.specs.Lent.{allGiven, left};
+ghost use Rattle.live.specs.Lent.{allGiven, left};
 use cells::Row;
 use cells::place;
 

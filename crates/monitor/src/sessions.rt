@@ -5,14 +5,10 @@ ghost use Prim.Native.Nat.{ℕ};
 ghost use Rattle.policy.specs.Rules.{policyOf};
 ghost use Rattle.cells.specs.Row.{stepOf};
 ghost use Rattle.allowed.specs.Allowed.{modelOf};
-ghost use Rattle.monitor.specs.Lent.{leaves, lentAs};
-ghost use Rattle.monitor.specs.Step.{opening, closing, changing};
-use super::Next;
-use super::Outcome;
-use super::Stepped;
+ghost use Rattle.live.specs.Lent.{leaves, lentAs};
+ghost use Rattle.steps.specs.Step.{opening, closing, changing};
 use super::numbers::is_left;
 use super::numbers::is_next;
-use super::refused;
 use allowed::may_change;
 use allowed::may_open;
 use cells::Row;
@@ -20,6 +16,10 @@ use cells::open_cell;
 use cells::place;
 use cells::session_at;
 use lists::listed;
+use live::Next;
+use live::Outcome;
+use live::Stepped;
+use live::refused;
 use policy::Rules;
 
 // Opens a session with the next number.

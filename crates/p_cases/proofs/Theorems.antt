@@ -19,9 +19,9 @@ use Rattle.verdict.specs.Verdict.{reached, reachedFrom, helpers, allBrought, pa
 use Rattle.allowed.specs.Allowed.{says, opening, changing, making, modifying, accessing, userValue, modelOf}
 use Rattle.cells.specs.Row.{partsOf, bitsOf, stepOf}
 use Rattle.cells.specs.Cell.{placeOf as cellOf, openCell, closedCell, itemCell, sessionIn, sessionAt, itemIn, itemAt}
-use Rattle.monitor.specs.Lent.{refused, done, tested as testedStep, ofSession, ofItem, numbers, allGiven, left}
-use Rattle.monitor.specs.Step.{sessionNow, itemNow, withSession, withItem, sessionGiven, itemGiven, opening as openingStep, making as makingStep, modifying as modifyingStep, accessing as accessingStep, byKind, stepIn}
-use Rattle.monitor.specs.Start.{over, sessionCells, itemCells, nothingGiven, started, beginning}
+use Rattle.live.specs.Lent.{refused, done, tested as testedStep, ofSession, ofItem, numbers, allGiven, left}
+use Rattle.steps.specs.Step.{sessionNow, itemNow, withSession, withItem, sessionGiven, itemGiven, opening as openingStep, making as makingStep, modifying as modifyingStep, accessing as accessingStep, byKind, stepIn}
+use Rattle.starting.specs.Start.{over, sessionCells, itemCells, nothingGiven, started, beginning}
 use Rattle.replay.specs.Question.{partsOf as questionOf, whoOf, whichOf, whoAmong, whichAmong, partsAsk, asks}
 use Rattle.replay.specs.Rows.{ranAll, further, rowsIn}
 use Rattle.replay.specs.Replay.{isOf, whoFits, whichFits, stepFits, lastFits, judged, played, replayed}

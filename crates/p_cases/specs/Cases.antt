@@ -13,15 +13,15 @@ use Rattle.rules.specs.Answers.{Answer, refusal, rules, reading}
 use Rattle.allowed.specs.Allowed.{modelOf}
 use Rattle.cells.specs.Row.{bitsOf}
 use Rattle.cells.specs.declared.row.Row.{Row}
-use Rattle.monitor.specs.Start.{started}
-use Rattle.monitor.specs.Step.{stepIn}
+use Rattle.live.specs.declared.Outcome.{Outcome}
+use Rattle.live.specs.declared.Outcome.the-variants as Outcome
+use Rattle.steps.specs.Step.{stepIn}
+use Rattle.starting.specs.Start.{started}
 use Rattle.replay.specs.Replay.{replayed}
 use Rattle.analyser.specs.Answer.{Told, told, rowsNeeded}
 use Rattle.analyser.specs.Never.{Never}
 use Rattle.analyser.specs.declared.Verdict.{Verdict}
 use Rattle.analyser.specs.declared.Verdict.the-variants as Verdict
-use Rattle.monitor.specs.declared.Outcome.{Outcome}
-use Rattle.monitor.specs.declared.Outcome.the-variants as Outcome
 
 -- the counter file
 unfoldable pub counterFile : List ℕ

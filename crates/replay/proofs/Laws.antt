@@ -23,12 +23,12 @@ use Rattle.cells.specs.Row.{partsOf as rowParts, stepOf}
 use Rattle.cells.specs.Cell.{sessionAt, sessionOf}
 use Rattle.cells.specs.declared.row.Row.{Row}
 use Rattle.cells.specs.declared.SessionRead.{SessionRead}
-use Rattle.monitor.specs.Lent.{Lent, After, lentAs, leaves, refused}
-use Rattle.monitor.specs.Step.{sessionNow, stepIn}
-use Rattle.monitor.specs.Start.{started, nothingGiven}
-use Rattle.monitor.specs.declared.Next.{Next}
-use Rattle.monitor.specs.declared.Outcome.{Outcome}
-use Rattle.monitor.specs.declared.Outcome.the-variants as Outcome
+use Rattle.live.specs.Lent.{Lent, After, lentAs, leaves, refused}
+use Rattle.live.specs.declared.Next.{Next}
+use Rattle.live.specs.declared.Outcome.{Outcome}
+use Rattle.live.specs.declared.Outcome.the-variants as Outcome
+use Rattle.steps.specs.Step.{sessionNow, stepIn}
+use Rattle.starting.specs.Start.{started, nothingGiven}
 use Rattle.replay.specs.Question.{partsOf, whoOf, whichOf, whoAmong, whichAmong, partsAsk, asks}
 use Rattle.replay.specs.Rows.{Ran, ranAll, further, rowsIn}
 use Rattle.replay.specs.Replay.{isOf, whoFits, whichFits, stepFits, lastFits, judged, played, replayed}

@@ -17,12 +17,12 @@ use Rattle.runs.specs.Step.{Step, Carried, opens, closes, changes, makes, modif
 use Rattle.cells.specs.Row.{stepOf}
 use Rattle.cells.specs.Cell.{placeOf}
 use Rattle.cells.proofs.Laws.{placeOf-is}
-use Rattle.monitor.specs.Lent.{Lent, After, refused, done, tested, ofSession, ofItem, numbers, left}
-use Rattle.monitor.specs.Step.{withSession, withItem, sessionGiven, itemGiven, opening, closing, changing, making, modifying, accessing, byKind, stepIn}
-use Rattle.monitor.specs.Start.{over, sessionCells, itemCells, started, beginning}
-use Rattle.monitor.specs.Codes.{Codes, Room}
-use Rattle.monitor.specs.declared.Outcome.the-variants as Outcome
-use Rattle.monitor.proofs.Outcomes.{tested-all, done-outcome}
+use Rattle.live.specs.Lent.{Lent, After, refused, done, tested, ofSession, ofItem, numbers, left}
+use Rattle.live.specs.declared.Outcome.the-variants as Outcome
+use Rattle.live.proofs.Outcomes.{tested-all, done-outcome}
+use Rattle.steps.specs.Step.{withSession, withItem, sessionGiven, itemGiven, opening, closing, changing, making, modifying, accessing, byKind, stepIn}
+use Rattle.steps.specs.Codes.{Codes, Room}
+use Rattle.starting.specs.Start.{over, sessionCells, itemCells, started, beginning}
 use Rattle.replay.specs.Claims.{rowStep, ofKind, Enough}
 
 -- as many cells

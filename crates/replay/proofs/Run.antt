@@ -20,14 +20,15 @@ use Rattle.runs.specs.Outcome.{CarriedAll, stop, then}
 use Rattle.runs.proofs.Bring.{append-carried}
 use Rattle.allowed.specs.Allowed.{modelOf}
 use Rattle.cells.specs.Row.{partsOf as rowParts}
-use Rattle.monitor.specs.Lent.{Lent, After, refused}
-use Rattle.monitor.specs.Step.{sessionNow, stepIn}
-use Rattle.monitor.specs.Start.{started, beginning}
-use Rattle.monitor.specs.Codes.{Bytes, Codes}
-use Rattle.monitor.specs.declared.Outcome.{Outcome}
-use Rattle.monitor.specs.declared.Outcome.the-variants as Outcome
-use Rattle.monitor.proofs.Outcomes.{refused-not-done}
-use Rattle.monitor.proofs.Theorems.{step-is-the-table, files-are-bytes, start-is-the-beginning}
+use Rattle.live.specs.Lent.{Lent, After, refused}
+use Rattle.live.specs.declared.Outcome.{Outcome}
+use Rattle.live.specs.declared.Outcome.the-variants as Outcome
+use Rattle.live.proofs.Outcomes.{refused-not-done}
+use Rattle.steps.specs.Step.{sessionNow, stepIn}
+use Rattle.steps.specs.Codes.{Bytes, Codes}
+use Rattle.steps.proofs.Theorems.{step-is-the-table, files-are-bytes}
+use Rattle.starting.specs.Start.{started, beginning}
+use Rattle.starting.proofs.Theorems.{start-is-the-beginning}
 use Rattle.replay.specs.Question.{partsOf, whoOf, whichOf, asks}
 use Rattle.replay.specs.Rows.{Ran, ranAll, further, rowsIn}
 use Rattle.replay.specs.Replay.{isOf, whoFits, whichFits, stepFits, lastFits, judged, played, replayed}

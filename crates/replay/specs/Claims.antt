@@ -14,9 +14,9 @@ use Rattle.runs.specs.Grant.{Fits}
 use Rattle.runs.specs.Outcome.{CarriedAll}
 use Rattle.allowed.specs.Allowed.{modelOf}
 use Rattle.cells.specs.Row.{partsOf as rowParts, stepOf}
-use Rattle.monitor.specs.Lent.{numbers}
-use Rattle.monitor.specs.Start.{beginning}
-use Rattle.monitor.specs.declared.Outcome.the-variants as Outcome
+use Rattle.live.specs.Lent.{numbers}
+use Rattle.live.specs.declared.Outcome.the-variants as Outcome
+use Rattle.starting.specs.Start.{beginning}
 use Rattle.replay.specs.Question.{partsOf, whoOf, whichOf, asks}
 use Rattle.replay.specs.Replay.{replayed}
 

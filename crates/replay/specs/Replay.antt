@@ -15,11 +15,11 @@ use Rattle.runs.specs.Step.{Step}
 use Rattle.runs.specs.Grant.{Who, session, user, anyone, Which, item, anything}
 use Rattle.allowed.specs.Allowed.{modelOf}
 use Rattle.cells.specs.Row.{partsOf as rowParts, stepOf}
-use Rattle.monitor.specs.Lent.{Lent, After, refused, lentAs}
-use Rattle.monitor.specs.Step.{sessionNow}
-use Rattle.monitor.specs.Start.{started, nothingGiven}
-use Rattle.monitor.specs.declared.Outcome.{Outcome}
-use Rattle.monitor.specs.declared.Outcome.the-variants as Outcome
+use Rattle.live.specs.Lent.{Lent, After, refused, lentAs}
+use Rattle.live.specs.declared.Outcome.{Outcome}
+use Rattle.live.specs.declared.Outcome.the-variants as Outcome
+use Rattle.steps.specs.Step.{sessionNow}
+use Rattle.starting.specs.Start.{started, nothingGiven}
 use Rattle.replay.specs.Question.{partsOf, whoOf, whichOf, asks}
 use Rattle.replay.specs.Rows.{Ran, rowsIn}
 use Rattle.replay.specs.declared.question.Question.{Question}

@@ -3,10 +3,10 @@
 use mathlib.Core.List.{List, [], _∷_}
 use Prim.Native.Nat.{ℕ, _+_}
 use Rattle.runs.specs.Model.{Model}
-use Rattle.monitor.specs.Lent.{Lent, After}
-use Rattle.monitor.specs.Step.{stepIn}
-use Rattle.monitor.specs.declared.Outcome.{Outcome}
-use Rattle.monitor.specs.declared.Outcome.the-variants as Outcome
+use Rattle.live.specs.Lent.{Lent, After}
+use Rattle.live.specs.declared.Outcome.{Outcome}
+use Rattle.live.specs.declared.Outcome.the-variants as Outcome
+use Rattle.steps.specs.Step.{stepIn}
 
 -- how rows came out: carried out, or the number of the first that was not; what then stands; how many were carried out
 pub record Ran : Type 0 where

@@ -5,13 +5,13 @@ ghost use Prim.Native.Nat.{ℕ};
 ghost use Rattle.policy.specs.Rules.{policyOf};
 ghost use Rattle.allowed.specs.Allowed.{modelOf};
 ghost use Rattle.cells.specs.Row.{partsOf, stepOf};
-ghost use Rattle.monitor.specs.Lent.{lentAs};
+ghost use Rattle.live.specs.Lent.{lentAs};
 ghost use Rattle.replay.specs.Question.{whoOf, whichOf};
 ghost use Rattle.replay.specs.Replay.{whoFits, whichFits, stepFits, lastFits};
 use super::question::Question;
 use cells::Row;
 use cells::session_at;
-use monitor::Next;
+use live::Next;
 use policy::Rules;
 
 // Whether session number k is one that is asked about.

@@ -8,12 +8,12 @@ mod fits;
 pub mod question;
 pub mod rows;
 
-use monitor::Outcome;
-use monitor::start_with;
+use live::Outcome;
 use question::Question;
 use rows::steps_at;
 use rules::Reading;
 use rules::read_rules;
+use starting::start_with;
 
 // Replays rows from a file's start for a question: carried out, or the first of 1 to 8 of the file, 10, 15 where the starting cells don't fit,
 // the number of the first row that is refused, and 17 unless the last row is a grant that fits the question. The cells hold what ran: up to

@@ -2,10 +2,10 @@
 ghost use mathlib.Core.Path.{_≡_};
 ghost use Rattle.policy.specs.Rules.{policyOf};
 ghost use Rattle.allowed.specs.Allowed.{modelOf};
-ghost use Rattle.monitor.specs.Lent.{lentAs};
+ghost use Rattle.live.specs.Lent.{lentAs};
 ghost use Rattle.replay.specs.Rows.{Ran, rowsIn};
-use monitor::Next;
-use monitor::Outcome;
+use live::Next;
+use live::Outcome;
 use monitor::step_at;
 use policy::Rules;
 

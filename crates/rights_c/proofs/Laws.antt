@@ -13,12 +13,12 @@ use Rattle.rules.specs.Answers.{Answer, refusal, rules, writtenOf}
 use Rattle.rules.specs.declared.Written.{Written}
 use Rattle.rules.specs.declared.Written.the-variants.{Length, Refused}
 use Rattle.allowed.specs.Allowed.{modelOf}
-use Rattle.monitor.specs.Lent.{Lent, After, lentAs, refused as refusedIn, done, tested}
-use Rattle.monitor.specs.Start.{started}
-use Rattle.monitor.specs.Step.{stepIn}
-use Rattle.monitor.specs.declared.Next.{Next}
-use Rattle.monitor.specs.declared.Outcome.{Outcome}
-use Rattle.monitor.specs.declared.Outcome.the-variants as Outcome
+use Rattle.live.specs.Lent.{Lent, After, lentAs, refused as refusedIn, done, tested}
+use Rattle.live.specs.declared.Next.{Next}
+use Rattle.live.specs.declared.Outcome.{Outcome}
+use Rattle.live.specs.declared.Outcome.the-variants as Outcome
+use Rattle.steps.specs.Step.{stepIn}
+use Rattle.starting.specs.Start.{started}
 use Rattle.replay.specs.Rows.{Ran, ranAll, further, rowsIn}
 use Rattle.analyser.specs.Answer.{Told}
 use Rattle.analyser.specs.Never.{Means}

@@ -4,11 +4,11 @@ use mathlib.Core.List.{List, [], _∷_}
 use Prim.Native.Nat.{ℕ}
 use Rattle.rules.specs.Answers.{Answer, refusal, rules}
 use Rattle.allowed.specs.Allowed.{modelOf}
-use Rattle.monitor.specs.Lent.{Lent, After, refused}
-use Rattle.monitor.specs.Start.{started}
-use Rattle.monitor.specs.Step.{stepIn}
-use Rattle.monitor.specs.declared.Outcome.{Outcome}
-use Rattle.monitor.specs.declared.Outcome.the-variants as Outcome
+use Rattle.live.specs.Lent.{Lent, After, refused}
+use Rattle.live.specs.declared.Outcome.{Outcome}
+use Rattle.live.specs.declared.Outcome.the-variants as Outcome
+use Rattle.steps.specs.Step.{stepIn}
+use Rattle.starting.specs.Start.{started}
 use Rattle.replay.specs.Rows.{Ran, ranAll, further}
 
 -- 0 for carried out, or the number

@@ -3,15 +3,15 @@ ghost use mathlib.Core.Path.{_≡_};
 ghost use lib.ListN.{length};
 ghost use Rattle.rules.specs.Answers.{reading, filled};
 ghost use Rattle.rights_c.specs.Numbers.{numberOf, rewritten, writeNumber, writeLength};
-ghost use Rattle.monitor.specs.Lent.{lentAs};
+ghost use Rattle.live.specs.Lent.{lentAs};
 ghost use Rattle.replay.specs.Replay.{replayed};
 ghost use Rattle.analyser.specs.Answer.{told};
 ghost use Rattle.analyser.specs.Never.{Means};
 ghost use Rattle.rights_c.specs.Steps.{outcomeNumber, hostStarted, hostStepped, hostSteps};
 ghost use Rattle.rights_c.specs.Verdicts.{verdictNumber, verdictCode};
 use analyser::Verdict;
-use monitor::Next;
-use monitor::Outcome;
+use live::Next;
+use live::Outcome;
 use replay::rows::steps_at;
 use rules::Reading;
 use rules::Written;
@@ -77,7 +77,7 @@ pub extern "C" fn rights_start(
     ensures { λ r. ⌜ r ≡ outcomeNumber (hostStarted (reading (now (file .entry))) (lentAs (now (sessions .entry)) (now (items .entry)) record { session = now (session .entry); item = now (item .entry) }) .outcome) ⌝ }
     ensures { λ r. ⌜ lentAs (now (sessions .exit)) (now (items .exit)) record { session = now (session .exit); item = now (item .exit) } ≡ hostStarted (reading (now (file .entry))) (lentAs (now (sessions .entry)) (now (items .entry)) record { session = now (session .entry); item = now (item .entry) }) .lent ⌝ }
 {
-    let s = monitor::start(file, sessions, items);
+    let s = starting::start(file, sessions, items);
     let outcome = s.outcome;
     match outcome {
         Outcome::Refused(n) => n as u32,

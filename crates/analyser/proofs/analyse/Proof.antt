@@ -4,8 +4,8 @@ use mathlib.Core.Path.{_∙_, subst}
 use native.Mathlib.Omega.{arith}
 use Rattle.policy.specs.Rules.{policyOf}
 use Rattle.rules.proofs.Laws.{was-accepted, was-refused}
-use Rattle.monitor.proofs.Begin.{file-sound}
-use Rattle.monitor.proofs.Laws.{held, denied}
+use Rattle.live.proofs.Laws.{held, denied}
+use Rattle.steps.proofs.Files.{file-sound}
 use Rattle.replay.specs.declared.question.Question.{Question}
 use Rattle.analyser.specs.Decide.{DecidedBy}
 use Rattle.analyser.proofs.Decides.{decided-is-told, refused-file-is-told, refused-sessions-is-told, refused-question-is-told, refused-room-is-told, rowsFor-needed}

@@ -45,19 +45,19 @@ use denote.Exit.{yes}
 use Rattle.policy.specs.Rules.{policyOf}
 use Rattle.policy.specs.declared.Rules.{Rules}
 use Rattle.allowed.specs.Allowed.{modelOf}
-use Rattle.monitor.specs.Lent.{After, leaves, lentAs}
-use Rattle.monitor.specs.Step.{stepIn}
-use Rattle.monitor.specs.declared.Next.{Next}
-use Rattle.monitor.specs.declared.Outcome.{Outcome}
-use Rattle.monitor.specs.declared.Stepped.{Stepped}
+use Rattle.live.specs.Lent.{After, leaves, lentAs}
+use Rattle.live.specs.declared.Next.{Next}
+use Rattle.live.specs.declared.Outcome.{Outcome}
+use Rattle.live.specs.declared.Stepped.{Stepped}
+use Rattle.steps.specs.Step.{stepIn}
 use Rattle.policy.proofs.Rules as P
 use Rattle.policy.proofs.Rules.Laws as P′
-use Rattle.monitor.proofs.Next as N
-use Rattle.monitor.proofs.Next.Laws as N′
-use Rattle.monitor.proofs.Outcome as O
-use Rattle.monitor.proofs.Outcome.Laws as O′
-use Rattle.monitor.proofs.Stepped as S
-use Rattle.monitor.proofs.Stepped.Laws as S′
+use Rattle.live.proofs.Next as N
+use Rattle.live.proofs.Next.Laws as N′
+use Rattle.live.proofs.Outcome as O
+use Rattle.live.proofs.Outcome.Laws as O′
+use Rattle.live.proofs.Stepped as S
+use Rattle.live.proofs.Stepped.Laws as S′
 use Rattle.monitor.proofs.step_at as step-at
 use Rattle.monitor.proofs.step_at.Symbol as step-at-def
 use Rattle.monitor.proofs.step_at.Symbol.{name as #monitor·step-at}

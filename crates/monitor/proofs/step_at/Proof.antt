@@ -1,7 +1,8 @@
 -- `monitor::step_at` meets its contract: the parts of the row tell which step it is, and that step answers.
 use mathlib.Core.Path.{sym, _∙_}
-use Rattle.monitor.specs.Step.{byKind}
-use Rattle.monitor.proofs.Laws.{gives, spare-set, of-kind, no-kind}
+use Rattle.live.proofs.Laws.{gives}
+use Rattle.steps.specs.Step.{byKind}
+use Rattle.steps.proofs.Laws.{spare-set, of-kind, no-kind}
 use borrow.Author.Needs.{needs}
 use Rattle.monitor.proofs.step_at.Statement.{statement}
 use Rattle.monitor.proofs.step_at.Tie as tie

@@ -4,7 +4,7 @@ use mathlib.Core.Bool.{true}
 use Rattle.policy.specs.Rules.{policyOf}
 use Rattle.rules.specs.Answers.{reading, rules}
 use Rattle.rules.proofs.Laws.{was-accepted, was-refused}
-use Rattle.monitor.proofs.Laws.{held, denied}
+use Rattle.live.proofs.Laws.{held, denied}
 use Rattle.replay.specs.Question.{asks}
 use Rattle.replay.proofs.Laws.{leaving, replay-unread, replay-unasked, replay-unstarted, replay-stopped, replay-shown, replay-missed}
 use borrow.Author.Needs.{needs}

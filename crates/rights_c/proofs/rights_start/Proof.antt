@@ -1,5 +1,5 @@
--- `rights_c::rights_start` meets its contract: what `monitor::start` leaves, with the next numbers kept where it gives a number.
-use Rattle.monitor.specs.Lent.{leaves}
+-- `rights_c::rights_start` meets its contract: what `starting::start` leaves, with the next numbers kept where it gives a number.
+use Rattle.live.specs.Lent.{leaves}
 use Rattle.rules.specs.Answers.{reading}
 use Rattle.rights_c.proofs.Laws.{start-number, start-done}
 use borrow.Author.Needs.{needs}

@@ -1,6 +1,6 @@
 -- `rights_c::rights_step` meets its contract: a refused file gives its number; with its rules, what `monitor::step_at` leaves.
 use mathlib.Core.Path.{_≡_}
-use Rattle.monitor.specs.Lent.{lentAs, leaves}
+use Rattle.live.specs.Lent.{lentAs, leaves}
 use Rattle.policy.specs.Rules.{policyOf}
 use Rattle.rules.specs.Answers.{reading, rules}
 use Rattle.rules.proofs.Laws.{was-accepted, was-refused}

@@ -1,6 +1,6 @@
 -- `rights_c::rights_steps` meets its contract: a refused file gives its number; with its rules, what `replay::rows::steps_at` leaves.
 use mathlib.Core.Path.{_≡_}
-use Rattle.monitor.specs.Lent.{lentAs}
+use Rattle.live.specs.Lent.{lentAs}
 use Rattle.policy.specs.Rules.{policyOf}
 use Rattle.rules.specs.Answers.{reading, rules}
 use Rattle.rules.proofs.Laws.{was-accepted, was-refused}

@@ -1,8 +1,9 @@
 -- `monitor::items::access_item` meets its contract: each return is told by the tests before it.
 use mathlib.Core.Path.{refl, _∙_}
 use borrow.Author.Tests.{lt-ltb, le-ltb}
-use Rattle.monitor.specs.Step.{accessing, sessionNow, itemNow}
-use Rattle.monitor.proofs.Laws.{here, later, all, also, fails, hold, held, denied, read-open, read-closed, of-open, of-closed, read-item, read-none, of-item, of-none, refuses, carries}
+use Rattle.live.proofs.Laws.{here, later, all, also, fails, hold, held, denied, of-open, of-closed, of-item, of-none}
+use Rattle.steps.specs.Step.{accessing, sessionNow, itemNow}
+use Rattle.steps.proofs.Laws.{read-open, read-closed, read-item, read-none, refuses, carries}
 use borrow.Author.Needs.{needs}
 use Rattle.monitor.proofs.items.access_item.Statement.{statement}
 use Rattle.monitor.proofs.items.access_item.Tie as tie

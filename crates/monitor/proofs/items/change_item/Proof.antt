@@ -1,9 +1,10 @@
 -- `monitor::items::change_item` meets its contract: each return is told by the tests before it.
 use mathlib.Core.Path.{_∙_}
 use native.Mathlib.Omega.{arith}
-use Rattle.monitor.specs.Step.{modifying, sessionNow, itemNow}
+use Rattle.live.proofs.Laws.{here, later, all, also, fails, hold, held, denied, of-open, of-closed, of-item, of-none}
+use Rattle.steps.specs.Step.{modifying, sessionNow, itemNow}
+use Rattle.steps.proofs.Laws.{read-open, read-closed, read-item, read-none, item-celled, item-written, refuses, carries}
 use Rattle.lists.proofs.Laws.{listed-byte}
-use Rattle.monitor.proofs.Laws.{here, later, all, also, fails, hold, held, denied, read-open, read-closed, of-open, of-closed, read-item, read-none, of-item, of-none, item-celled, item-written, refuses, carries}
 use borrow.Author.Needs.{needs}
 use Rattle.monitor.proofs.items.change_item.Statement.{statement}
 use Rattle.monitor.proofs.items.change_item.Tie as tie

@@ -1,9 +1,10 @@
 -- `monitor::items::make_item` meets its contract: each return is told by the tests before it.
 use mathlib.Core.Path.{_∙_}
 use native.Mathlib.Omega.{arith}
-use Rattle.monitor.specs.Step.{making, sessionNow}
+use Rattle.live.proofs.Laws.{here, later, all, also, fails, hold, held, denied, left-number, left-celled, of-open, of-closed}
+use Rattle.steps.specs.Step.{making, sessionNow}
+use Rattle.steps.proofs.Laws.{read-open, read-closed, item-written, item-given, refuses, carries}
 use Rattle.lists.proofs.Laws.{listed-byte}
-use Rattle.monitor.proofs.Laws.{here, later, all, also, fails, hold, held, denied, left-number, left-celled, read-open, read-closed, of-open, of-closed, item-written, item-given, refuses, carries}
 use borrow.Author.Needs.{needs}
 use Rattle.monitor.proofs.items.make_item.Statement.{statement}
 use Rattle.monitor.proofs.items.make_item.Tie as tie

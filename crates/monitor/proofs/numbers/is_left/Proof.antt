@@ -1,6 +1,6 @@
 -- `monitor::numbers::is_left` meets its contract.
 use borrow.Author.Tests.{lt-ltb, le-ltb}
-use Rattle.monitor.specs.Lent.{numbers, left}
+use Rattle.live.specs.Lent.{numbers, left}
 use borrow.Author.Needs.{needs}
 use Rattle.monitor.proofs.numbers.is_left.Statement.{statement}
 use Rattle.monitor.proofs.numbers.is_left.Tie as tie

@@ -1,6 +1,6 @@
 -- `monitor::numbers::is_next` meets its contract.
 use borrow.Author.Tests.{le-leb, lt-leb}
-use Rattle.monitor.specs.Lent.{numbers, allGiven}
+use Rattle.live.specs.Lent.{numbers, allGiven}
 use Rattle.monitor.proofs.numbers.is_next.Statement.{statement}
 use Rattle.monitor.proofs.numbers.is_next.Tie as tie
 

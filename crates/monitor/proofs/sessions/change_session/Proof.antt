@@ -2,9 +2,10 @@
 use mathlib.Core.Path.{_∙_}
 use native.Mathlib.Omega.{arith}
 use borrow.Author.Tests.{eq-eqb, ne-eqb}
-use Rattle.monitor.specs.Step.{changing, sessionNow}
+use Rattle.live.proofs.Laws.{here, later, all, also, fails, hold, held, denied, of-open, of-closed}
+use Rattle.steps.specs.Step.{changing, sessionNow}
+use Rattle.steps.proofs.Laws.{read-open, read-closed, open-celled, session-written, refuses, carries}
 use Rattle.lists.proofs.Laws.{listed-byte}
-use Rattle.monitor.proofs.Laws.{here, later, all, also, fails, hold, held, denied, read-open, read-closed, of-open, of-closed, open-celled, session-written, refuses, carries}
 use borrow.Author.Needs.{needs}
 use Rattle.monitor.proofs.sessions.change_session.Statement.{statement}
 use Rattle.monitor.proofs.sessions.change_session.Tie as tie

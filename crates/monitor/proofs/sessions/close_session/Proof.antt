@@ -2,8 +2,9 @@
 use mathlib.Core.Path.{_∙_}
 use native.Mathlib.Omega.{arith}
 use borrow.Author.Tests.{eq-eqb, ne-eqb}
-use Rattle.monitor.specs.Step.{closing, sessionNow}
-use Rattle.monitor.proofs.Laws.{here, all, also, fails, hold, read-open, read-closed, of-open, of-closed, open-celled, closed-cell, session-written, refuses, carries}
+use Rattle.live.proofs.Laws.{here, all, also, fails, hold, of-open, of-closed}
+use Rattle.steps.specs.Step.{closing, sessionNow}
+use Rattle.steps.proofs.Laws.{read-open, read-closed, open-celled, closed-cell, session-written, refuses, carries}
 use borrow.Author.Needs.{needs}
 use Rattle.monitor.proofs.sessions.close_session.Statement.{statement}
 use Rattle.monitor.proofs.sessions.close_session.Tie as tie

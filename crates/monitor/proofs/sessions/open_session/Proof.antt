@@ -1,9 +1,10 @@
 -- `monitor::sessions::open_session` meets its contract: each return is told by the tests before it.
 use native.Mathlib.Omega.{arith}
 use borrow.Author.Tests.{lt-ltb, le-ltb}
-use Rattle.monitor.specs.Step.{opening}
+use Rattle.live.proofs.Laws.{here, later, all, also, fails, hold, held, denied, left-number, left-celled}
+use Rattle.steps.specs.Step.{opening}
+use Rattle.steps.proofs.Laws.{session-written, session-given, refuses, carries}
 use Rattle.lists.proofs.Laws.{listed-byte}
-use Rattle.monitor.proofs.Laws.{here, later, all, also, fails, hold, held, denied, left-number, left-celled, session-written, session-given, refuses, carries}
 use borrow.Author.Needs.{needs}
 use Rattle.monitor.proofs.sessions.open_session.Statement.{statement}
 use Rattle.monitor.proofs.sessions.open_session.Tie as tie

@@ -2,7 +2,7 @@
 use mathlib.Core.Path.{sym, _∙_}
 use native.Mathlib.Omega.{arith}
 use borrow.Author.Tests.{eq-eqb, ne-eqb}
-use Rattle.monitor.proofs.Laws.{held, denied}
+use Rattle.live.proofs.Laws.{held, denied}
 use Rattle.replay.proofs.Laws.{row-fits}
 use borrow.Author.Needs.{needs}
 use Rattle.replay.proofs.fits.step_fits.Statement.{statement}

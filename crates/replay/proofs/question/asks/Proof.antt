@@ -3,7 +3,7 @@ use mathlib.Core.Path.{refl, sym, _∙_}
 use native.Mathlib.Omega.{arith}
 use borrow.Author.Tests.{eq-eqb, ne-eqb}
 use lib.ListN.{length}
-use Rattle.monitor.proofs.Laws.{held, denied}
+use Rattle.live.proofs.Laws.{held, denied}
 use Rattle.replay.proofs.Laws.{asked}
 use borrow.Author.Needs.{needs}
 use Rattle.replay.proofs.question.asks.Statement.{statement}

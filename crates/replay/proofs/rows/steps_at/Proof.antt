@@ -6,7 +6,7 @@ use native.Mathlib.Omega.{arith}
 use lib.ListN.{length, drop}
 use Rattle.policy.specs.Rules.{policyOf}
 use Rattle.allowed.specs.Allowed.{modelOf}
-use Rattle.monitor.specs.Lent.{lentAs}
+use Rattle.live.specs.Lent.{lentAs}
 use Rattle.replay.specs.Rows.{rowsIn}
 use Rattle.replay.proofs.Laws.{rows-further, rows-stop, rows-all}
 use borrow.Author.Needs.{needs}

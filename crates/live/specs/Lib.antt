@@ -1,0 +1,2 @@
+-- in reading order
+pub mod Lent  -- the live state, and what a call leaves

@@ -1,20 +1,17 @@
 -- Numbers count up. In order: a step never lowers the next numbers; rows never do; a number that is given is the next one, and then the next is greater.
-use mathlib.Core.Path.{_≡_, refl, sym, ap, _∙_, subst}
-use mathlib.Core.Bool.{Bool, true, false}
-use mathlib.Core.Option.{Option, none, some}
+use mathlib.Core.Path.{_≡_, sym, ap, _∙_}
 use mathlib.Core.List.{List, [], _∷_}
-use Prim.Native.Nat.{ℕ, zero, suc, _+_, _≤_, _<_}
+use Prim.Native.Nat.{ℕ, _+_, _≤_}
 use native.Mathlib.Omega.{arith}
-use borrow.Author.Tests.{eqb-true}
 use Rattle.runs.specs.Model.{Model}
-use Rattle.runs.specs.State.{Session, closed, opened}
 use Rattle.runs.specs.Step.{Step}
 use Rattle.cells.specs.Row.{partsOf, stepOf}
-use Rattle.live.specs.Lent.{Lent, After, refused, done, tested, ofSession, ofItem, left}
+use Rattle.live.specs.Lent.{Lent, After, done}
 use Rattle.live.specs.declared.Outcome.the-variants as Outcome
-use Rattle.live.proofs.Outcomes.{tested-done, session-done, done-lent}
-use Rattle.steps.specs.Step.{withSession, withItem, sessionGiven, itemGiven, opening, closing, changing, making, modifying, accessing, byKind, stepIn, stepsIn}
+use Rattle.live.proofs.Outcomes.{tested-done, session-done}
+use Rattle.steps.specs.Step.{withSession, withItem, sessionGiven, itemGiven, opening, making, byKind, stepIn, stepsIn}
 use Rattle.steps.specs.Claims.{GivesSession, GivesItem, NumbersCountUp}
+use Rattle.steps.proofs.Kept.{Lasts, lasts-step}
 use Rattle.steps.proofs.Table.{target-next}
 
 -- the next numbers of t are not below those of s
@@ -28,62 +25,19 @@ onward-same s = record { session = omega arith; item = omega arith }
 onward-then : {s t u : Lent} → Onward s t → Onward t u → Onward s u
 onward-then a b = record { session = omega (arith, a .session, b .session); item = omega (arith, a .item, b .item) }
 
-onward-refused : (s : Lent) (n : ℕ) → Onward s (refused n s .lent)
-unfolding refused
-onward-refused s n = onward-same s
-
-onward-done : (s t : Lent) → Onward s t → Onward s (done t .lent)
-unfolding done
-onward-done s t o = o
-
-onward-tested : (l : List (Bool × ℕ)) (s : Lent) (a : After) → Onward s (a .lent) → Onward s (tested l s a .lent)
-unfolding tested
-onward-tested [] s a o = o
-onward-tested ((true, n) ∷ l) s a o = onward-tested l s a o
-onward-tested ((false, n) ∷ l) s a o = onward-refused s n
-
-onward-session : (x : Session) (s : Lent) (f : ℕ → ℕ → After) → ((u v : ℕ) → Onward s (f u v .lent)) → Onward s (ofSession x s f .lent)
-unfolding ofSession
-onward-session closed s f o = onward-refused s 13
-onward-session (opened u v) s f o = o u v
-
-onward-item : (x : Option ℕ) (s : Lent) (f : ℕ → After) → ((o : ℕ) → Onward s (f o .lent)) → Onward s (ofItem x s f .lent)
-unfolding ofItem
-onward-item none s f o = onward-refused s 13
-onward-item (some v) s f o = o v
-
-module _ (s : Lent) where
-  onward-session-write : (k w : ℕ) → Onward s (withSession s k w)
-  unfolding withSession
-  onward-session-write k w = record { session = omega arith; item = omega arith }
-
-  onward-item-write : (k w : ℕ) → Onward s (withItem s k w)
-  unfolding withItem
-  onward-item-write k w = record { session = omega arith; item = omega arith }
-
-  onward-open : (k w : ℕ) → Onward s (sessionGiven (withSession s k w))
-  unfolding withSession sessionGiven
-  onward-open k w = record { session = omega arith; item = omega arith }
-
-  onward-make : (k w : ℕ) → Onward s (itemGiven (withItem s k w))
-  unfolding withItem itemGiven
-  onward-make k w = record { session = omega arith; item = omega arith }
-
-module _ (m : Model) (s : Lent) (p : Step) where
-  onward-kind : (k : ℕ) → Onward s (byKind m s p k .lent)
-  unfolding byKind opening closing changing making modifying accessing
-  onward-kind zero = onward-refused s 12
-  onward-kind (suc zero) = onward-tested _ s _ (onward-done s _ (onward-open s _ _))
-  onward-kind (suc (suc zero)) = onward-tested _ s _ (onward-session _ s _ λ u v. onward-tested _ s _ (onward-done s _ (onward-session-write s _ _)))
-  onward-kind (suc (suc (suc zero))) = onward-session _ s _ λ u v. onward-tested _ s _ (onward-done s _ (onward-session-write s _ _))
-  onward-kind (suc (suc (suc (suc zero)))) = onward-session _ s _ λ u v. onward-tested _ s _ (onward-done s _ (onward-make s _ _))
-  onward-kind (suc (suc (suc (suc (suc zero))))) = onward-session _ s _ λ u v. onward-item _ s _ λ o. onward-tested _ s _ (onward-done s _ (onward-item-write s _ _))
-  onward-kind (suc (suc (suc (suc (suc (suc zero)))))) = onward-session _ s _ λ u v. onward-item _ s _ λ o. onward-tested _ s _ (onward-done s _ (onward-same s))
-  onward-kind (suc (suc (suc (suc (suc (suc (suc k))))))) = onward-refused s 12
+onward-lasts : (s : Lent) → Lasts (Onward s) s
+unfolding withSession withItem sessionGiven itemGiven
+onward-lasts s =
+    record {
+      same = onward-same s;
+      session = λ k w. record { session = omega arith; item = omega arith };
+      item = λ k w. record { session = omega arith; item = omega arith };
+      opened = λ k w. record { session = omega arith; item = omega arith };
+      made = λ k w. record { session = omega arith; item = omega arith };
+    }
 
 onward-step : (m : Model) (s : Lent) (row : ℕ) → Onward s (stepIn m s row .lent)
-unfolding stepIn
-onward-step m s row = onward-tested _ s _ (onward-kind m s _ _)
+onward-step m s = lasts-step (Onward s) m s (onward-lasts s)
 
 onward-steps : (m : Model) (s : Lent) (rows : List ℕ) → Onward s (stepsIn m s rows)
 unfolding stepsIn

@@ -6,11 +6,12 @@ use mathlib.Core.List.{List, [], _∷_}
 use mathlib.Core.Option.{Option, none, some}
 use Prim.Native.Nat.{ℕ, _<_}
 use native.Mathlib.Omega.{arith}
-use borrow.Author.Tests.{ltb-true, not-true, not-false}
+use borrow.Author.Tests.{ltb-true, lt-ltb, not-true, not-false}
 use lib.Dec.{ltb}
 use lib.ListN.{length}
 use Rattle.runs.specs.State.{Session, closed, opened}
 use Rattle.cells.specs.Cell.{placeOf}
+use Rattle.cells.proofs.Laws.{placeOf-is}
 use Rattle.live.specs.Lent.{Lent, After, lentAs, leaves, refused, tested, ofSession, ofItem, numbers, left}
 use Rattle.live.specs.declared.Next.{Next}
 use Rattle.live.specs.declared.Stepped.{Stepped}
@@ -59,6 +60,13 @@ left-number cells n e = ltb-true n 1048576 (and-both (ltb n numbers) (ltb (place
 pub left-celled : (cells : List ℕ) (n : ℕ) → left cells n ≡ true → placeOf n < length cells
 unfolding left
 left-celled cells n e = ltb-true (placeOf n) (length cells) (and-both (ltb n numbers) (ltb (placeOf n) (length cells)) e .1)
+
+-- a number below both limits is left
+pub is-left : (cells : List ℕ) (next : ℕ) → next < numbers → next < length cells → left cells next ≡ true
+unfolding left
+is-left cells next a b =
+    let c : placeOf next < length cells = omega (arith, placeOf-is next) in
+    rw (lt-ltb next numbers a, lt-ltb (placeOf next) (length cells) c) refl
 
 -- what follows of a session or an item
 

@@ -27,6 +27,7 @@ use Rattle.live.proofs.Outcomes.{refused-not-done}
 use Rattle.steps.specs.Step.{sessionNow, stepIn}
 use Rattle.steps.specs.Codes.{Bytes, Codes}
 use Rattle.steps.proofs.Theorems.{step-is-the-table, files-are-bytes}
+use Rattle.steps.proofs.Kept.{celled-step}
 use Rattle.starting.specs.Start.{started, beginning}
 use Rattle.starting.proofs.Theorems.{start-is-the-beginning}
 use Rattle.replay.specs.Question.{partsOf, whoOf, whichOf, asks}
@@ -35,7 +36,7 @@ use Rattle.replay.specs.Replay.{isOf, whoFits, whichFits, stepFits, last
 use Rattle.replay.specs.Claims.{rowStep, Enough, RunLeak, ReplayIsTheRun}
 use Rattle.replay.specs.declared.question.Question.{Question}
 use Rattle.replay.proofs.Laws.{none-fits, last-is, replay-shown}
-use Rattle.replay.proofs.Room.{Ample, celled-step, ample-room, ample-after, enough-starts, enough-ample}
+use Rattle.replay.proofs.Room.{Ample, ample-room, ample-after, enough-starts, enough-ample}
 
 -- what fits
 

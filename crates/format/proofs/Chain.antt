@@ -10,7 +10,8 @@ use native.Mathlib.Omega.{arith}
 use borrow.Author.Tests.{eq-eqb, ne-eqb, le-leb, le-ltb, leb-true, ltb-true}
 use lib.Dec.{eqb, leb, ltb}
 use lib.ListN.{length}
-use Rattle.format.specs.Format.{Res, ok, bad, Format, tested, andThen, taken, field, check, rowsRead, rows, pair, via, zeros, ended, readFile, within}
+use Rattle.format.specs.Format.{Res, ok, bad, Format, tested, andThen, taken, field, check, rowsRead, rows, pair, via, zeros, within}
+use Rattle.format.specs.File.{ended, readFile}
 use Rattle.format.specs.Steps.{from, resOf, judged}
 use Rattle.format.specs.declared.Cursor.{Cursor}
 use Rattle.format.proofs.Fault.{judged-holds, judged-fails, judged-before}

@@ -9,7 +9,7 @@ use lib.ListN.{length}
 use Rattle.bits.specs.Field.{bitAt, numberAt}
 use Rattle.bits.specs.Packed.{widths, bitOf, packed}
 use Rattle.bits.proofs.Laws.{bit-lt, number-is, number-ext, nth, all-bits, bit-of-number, cut-bits}
-use Rattle.format.specs.Format.{Fit}
+use Rattle.format.specs.File.{Fit}
 use Rattle.bits.proofs.Packed.{widths-app, bitOf-in, bitOf-after, packed-length, packed-bits}
 
 pub fit-left : (fs gs : List (ℕ × ℕ)) → Fit (fs ++ gs) → Fit fs

@@ -16,7 +16,8 @@ use Rattle.bits.specs.Field.{numberAt}
 use Rattle.bits.specs.Packed.{widths}
 use Rattle.bits.proofs.Laws.{number-lt}
 use Rattle.bits.proofs.Packed.{widths-app}
-use Rattle.format.specs.Format.{Fit, ok, Format, unless, tested, taken, field, check, rowsRead, rowsJudge, rowsFields, rows, pair, via, zeros}
+use Rattle.format.specs.Format.{ok, Format, unless, tested, taken, field, check, rowsRead, rowsJudge, rowsFields, rows, pair, via, zeros}
+use Rattle.format.specs.File.{Fit}
 use Rattle.format.proofs.Fault.{unless-none, none-unless, unless-some, first-none, none-first, first-some}
 use Rattle.format.proofs.Fault.{then-ok, ok-then, tested-ok, ok-tested, taken-value, taken-ok, BadAt, bad-then, ok-bad, bad-tested}
 use Rattle.format.proofs.Holds.{fit-left, fit-right, Holds, holds-left, holds-right, holds-app}

@@ -8,7 +8,8 @@ use native.Mathlib.Omega.{arith}
 use lib.Dec.{leb, eqb}
 use lib.ListN.{length}
 use Rattle.bits.specs.Field.{numberAt}
-use Rattle.format.specs.Format.{Res, ok, bad, Format, tested, andThen, taken, field, check, rowsRead, rows, pair, via, zeros, ended, readFile}
+use Rattle.format.specs.Format.{Res, ok, bad, Format, tested, andThen, taken, field, check, rowsRead, rows, pair, via, zeros}
+use Rattle.format.specs.File.{ended, readFile}
 
 module _ (P : ℕ → Type 0) where
   -- every number that reading gives is one of P

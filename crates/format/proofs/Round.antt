@@ -15,7 +15,8 @@ use Rattle.bits.specs.Field.{bitAt}
 use Rattle.bits.specs.Packed.{widths, bitOf, packed}
 use Rattle.bits.proofs.Laws.{Bytes}
 use Rattle.bits.proofs.Packed.{bitOf-in, bitOf-end, nothing, packed-length, packed-bits, packed-only}
-use Rattle.format.specs.Format.{Fit, ok, refused, bytes, Format, field, ended, bytesOr, readFile, writeFile}
+use Rattle.format.specs.Format.{ok, Format, field}
+use Rattle.format.specs.File.{Fit, refused, bytes, ended, bytesOr, readFile, writeFile}
 use Rattle.format.proofs.Fault.{none-unless, none-first, then-ok, ok-then, tested-ok, ok-tested, BadAt, bad-then}
 use Rattle.format.proofs.Holds.{Has, Holds, bits-has, has-bits, packed-holds}
 use Rattle.format.proofs.Law.{Back, Lawful, lawful-field, judged-field}

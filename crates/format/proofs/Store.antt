@@ -14,7 +14,8 @@ use Rattle.bits.specs.Packed.{widths, packed, puts}
 use Rattle.bits.proofs.Packed.{widths-app}
 use Rattle.bits.proofs.Filled.{puts-packed}
 use Rattle.bits.proofs.Stored.{length-puts, puts-app}
-use Rattle.format.specs.Format.{Format, bytes, refused, unless, first, field, check, rowsJudge, rowsFields, rows, pair, via, zeros, bytesOr, writeFile}
+use Rattle.format.specs.Format.{Format, unless, first, field, check, rowsJudge, rowsFields, rows, pair, via, zeros}
+use Rattle.format.specs.File.{bytes, refused, bytesOr, writeFile}
 use Rattle.format.specs.Steps.{judged, faultOf, Stores}
 use Rattle.format.specs.declared.Cursor.{Cursor}
 use Rattle.format.proofs.Fault.{first-none, first-left, first-right, first-assoc, fault-none, fault-some, fault-stays, none-fault, judged-same, fault-judged}

@@ -4,11 +4,10 @@
 use mathlib.Core.Bool.{Bool, true, false, _&&_, cond}
 use mathlib.Core.List.{List, [], _∷_, _++_}
 use mathlib.Core.Option.{Option, none, some}
-use Prim.Native.Nat.{ℕ, zero, suc, _+_, _-_, _*_, _%_, _^_, _<_}
+use Prim.Native.Nat.{ℕ, zero, suc, _+_, _-_, _*_, _^_}
 use lib.Dec.{ltb, leb, eqb}
 use lib.ListN.{length}
 use Rattle.bits.specs.Field.{numberAt}
-use Rattle.bits.specs.Packed.{packed}
 
 -- what reading gives: a refusal's number and the bits taken until it was judged, or what was read and the place after it
 pub data Res (A : Type 0) : Type 0 where
@@ -111,31 +110,3 @@ module _ {A B : Type 0} where
 -- one, then w zero bits, refused with n if one is set
 unfoldable pub zeros : {A : Type 0} → Format A → ℕ → ℕ → Format A
 zeros f w n = via (λ a. (a, 0)) (λ p. p .0) (pair f (λ _. field w (eqb 0) n))
-
--- every number fits its bits
-abbrev pub Fit : List (ℕ × ℕ) → Type 0
-Fit [] = Unit {0}
-Fit ((w, x) ∷ fs) = (x < 2 ^ w) × Fit fs
-
--- what writing gives: a refusal's number, or the bytes
-pub data Bytes : Type 0 where
-  refused : ℕ → Bytes
-  bytes : List ℕ → Bytes
-
--- the bytes, unless there is a fault
-unfoldable pub bytesOr : Option ℕ → List ℕ → Bytes
-bytesOr none l = bytes l
-bytesOr (some n) l = refused n
-
-module _ {A : Type 0} where
-  -- the filling bits, one field, and nothing after them [01:The rule file, "Zero bits fill the last byte, and nothing follows"]
-  unfoldable pub ended : List ℕ → A → ℕ → Res A
-  ended s a q = andThen (field ((8 - q % 8) % 8) (eqb 0) 3 .read s q) (λ x r. tested (eqb r (8 * length s)) 3 a r)
-
-  -- a whole file is read
-  unfoldable pub readFile : Format A → List ℕ → Res A
-  readFile f s = andThen (f .read s 0) (λ a q. ended s a q)
-
-  -- the file that holds a value
-  unfoldable pub writeFile : Format A → A → Bytes
-  writeFile f a = bytesOr (f .judge a) (packed (f .fields a))

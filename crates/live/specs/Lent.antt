@@ -18,6 +18,11 @@ pub record Lent : Type 0 where
   pub items : List ℕ
   pub next : Next
 
+-- the paper's number of an outcome, 0 for carried out
+unfoldable pub outcomeNumber : Outcome → ℕ
+outcomeNumber Outcome.Done = 0
+outcomeNumber (Outcome.Refused n) = n
+
 -- an outcome, and what then stands
 pub record After : Type 0 where
   pub outcome : Outcome

@@ -3,7 +3,8 @@ use mathlib.Core.Path.{_≡_, refl}
 use Rattle.bits.specs.Field.{bitAt, numberOf, numberAt, fieldAt}
 use Rattle.bits.specs.Packed.{tab}
 use Rattle.bits.specs.Set.{sizeOf, inSet, allBelow, subsetOf, properOf}
-use Rattle.format.specs.Format.{unless, first, tested, andThen, taken, within, field, check, rowsRead, rows, pair, via, zeros, ended, readFile}
+use Rattle.format.specs.Format.{unless, first, tested, andThen, taken, within, field, check, rowsRead, rows, pair, via, zeros}
+use Rattle.format.specs.File.{ended, readFile}
 use Rattle.policy.specs.Policy.{fewestFrom, fewestBits, bitsFor, codes, width}
 use Rattle.policy.specs.Nodes.{opOf, firstOf, secondOf, holderOf, placeOf, mayUse, ofHolder, names, atomic, nodeOk}
 use Rattle.policy.specs.File.{count, headFormat, largest, attrFormat, classFormat, listsFormat, valueFormat, sessionFormat, formulaFormat, policyFormat}
@@ -19,7 +20,7 @@ use Rattle.verdict.specs.Verdict.{reached, reachedFrom, helpers, allBrought, pa
 use Rattle.allowed.specs.Allowed.{says, opening, changing, making, modifying, accessing, userValue, modelOf}
 use Rattle.cells.specs.Row.{partsOf, bitsOf, stepOf}
 use Rattle.cells.specs.Cell.{placeOf as cellOf, openCell, closedCell, itemCell, sessionIn, sessionAt, itemIn, itemAt}
-use Rattle.live.specs.Lent.{refused, done, tested as testedStep, ofSession, ofItem, numbers, allGiven, left}
+use Rattle.live.specs.Lent.{outcomeNumber, refused, done, tested as testedStep, ofSession, ofItem, numbers, allGiven, left}
 use Rattle.steps.specs.Step.{sessionNow, itemNow, withSession, withItem, sessionGiven, itemGiven, opening as openingStep, making as makingStep, modifying as modifyingStep, accessing as accessingStep, byKind, stepIn}
 use Rattle.starting.specs.Start.{over, sessionCells, itemCells, nothingGiven, started, beginning}
 use Rattle.replay.specs.Question.{partsOf as questionOf, whoOf, whichOf, whoAmong, whichAmong, partsAsk, asks}
@@ -28,7 +29,7 @@ use Rattle.replay.specs.Replay.{isOf, whoFits, whichFits, stepFits, lastFits, j
 use Rattle.analyser.specs.Answer.{sessionValues, itemValues, rowsNeeded, refused as refusedAnswer, decided, told}
 use Rattle.analyser.specs.declared.Verdict.the-variants as Verdict
 use Rattle.analyser.proofs.Theorems.{safe-is-never}
-use Rattle.p_cases.specs.Cases.{counterFile, outcomeNumber, firstStep, row, shownRows, shorterRows, ofUser0, ofUser1, verdictNumber, isTold, replayNumber, widest, table, allHold, PaperCases}
+use Rattle.p_cases.specs.Cases.{counterFile, firstStep, row, shownRows, shorterRows, ofUser0, ofUser1, verdictNumber, isTold, replayNumber, widest, table, allHold, PaperCases}
 
 -- P1's verdict, computed
 counter-safe : told (reading counterFile) ofUser1 9 .verdict ≡ Verdict.Safe

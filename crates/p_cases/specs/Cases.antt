@@ -13,8 +13,7 @@ use Rattle.rules.specs.Answers.{Answer, refusal, rules, reading}
 use Rattle.allowed.specs.Allowed.{modelOf}
 use Rattle.cells.specs.Row.{bitsOf}
 use Rattle.cells.specs.declared.row.Row.{Row}
-use Rattle.live.specs.declared.Outcome.{Outcome}
-use Rattle.live.specs.declared.Outcome.the-variants as Outcome
+use Rattle.live.specs.Lent.{outcomeNumber}
 use Rattle.steps.specs.Step.{stepIn}
 use Rattle.starting.specs.Start.{started}
 use Rattle.replay.specs.Replay.{replayed}
@@ -27,11 +26,6 @@ use Rattle.analyser.specs.declared.Verdict.the-variants as Verdict
 unfoldable pub counterFile : List ℕ
 counterFile =
     17 ∷ 17 ∷ 0 ∷ 0 ∷ 128 ∷ 132 ∷ 8 ∷ 64 ∷ 8 ∷ 8 ∷ 6 ∷ 80 ∷ 0 ∷ 0 ∷ 101 ∷ 0 ∷ 0 ∷ 5 ∷ 96 ∷ 40 ∷ 0 ∷ 98 ∷ 128 ∷ 128 ∷ 14 ∷ 40 ∷ 8 ∷ 21 ∷ 130 ∷ 132 ∷ 192 ∷ 0 ∷ 64 ∷ []
-
--- the number of an outcome, 0 for carried out
-unfoldable pub outcomeNumber : Outcome → ℕ
-outcomeNumber Outcome.Done = 0
-outcomeNumber (Outcome.Refused n) = n
 
 -- the number that a first step gets where a file's monitor is started with so many cells of each kind
 unfoldable pub firstStep : Answer → ℕ → Row → ℕ

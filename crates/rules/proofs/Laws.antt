@@ -8,7 +8,8 @@ use native.Mathlib.Omega.{arith}
 use borrow.Author.Tests.{le-leb, lt-leb, eq-eqb, ne-eqb}
 use lib.Dec.{eqb}
 use lib.ListN.{length, drop}
-use Rattle.format.specs.Format.{Res, ok, bad, Bytes, refused, bytes, readFile, writeFile}
+use Rattle.format.specs.Format.{Res, ok, bad}
+use Rattle.format.specs.File.{Bytes, refused, bytes, readFile, writeFile}
 use Rattle.format.specs.Steps.{resOf, Stores}
 use Rattle.format.specs.declared.Cursor.{Cursor}
 use Rattle.format.proofs.Fault.{BadAt, fault-none, none-fault}

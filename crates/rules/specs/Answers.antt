@@ -7,7 +7,8 @@ use mathlib.Core.List.{List, _++_}
 use Prim.Native.Nat.{ℕ}
 use lib.Dec.{leb}
 use lib.ListN.{length, drop, replicate}
-use Rattle.format.specs.Format.{Res, ok, bad, Bytes, refused, bytes, readFile, writeFile}
+use Rattle.format.specs.Format.{Res, ok, bad}
+use Rattle.format.specs.File.{Bytes, refused, bytes, readFile, writeFile}
 use Rattle.policy.specs.Policy.{Policy}
 use Rattle.policy.specs.File.{policyFormat}
 use Rattle.policy.specs.Rules.{policyOf}

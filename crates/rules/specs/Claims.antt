@@ -6,7 +6,7 @@ use mathlib.Core.List.{List}
 use Prim.Native.Nat.{ℕ, _^_, _≤_, _<_}
 use lib.ListN.{getD}
 use Rattle.bits.specs.Packed.{packed}
-use Rattle.format.specs.Format.{Fit, refused, bytes}
+use Rattle.format.specs.File.{Fit, refused, bytes}
 use Rattle.policy.specs.Policy.{Policy, fewestBits}
 use Rattle.policy.specs.File.{policyFormat}
 use Rattle.policy.specs.Rules.{policyOf}

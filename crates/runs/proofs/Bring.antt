@@ -8,7 +8,8 @@ use lib.ListN.{length, set, length-append, length-set}
 use lib.Seq.{set-append-seam, set-set}
 use Rattle.runs.specs.Model.{Model}
 use Rattle.runs.specs.State.{Session, opened, Item, State, sessionAt, itemAt}
-use Rattle.runs.specs.Step.{Step, Carried, opens, changes, makes, modifies, stepped}
+use Rattle.runs.specs.Step.{Step, Carried, opens, changes, makes, modifies}
+use Rattle.runs.specs.Stepped.{stepped}
 use Rattle.runs.specs.Run.{orSame, run}
 use Rattle.runs.specs.Reach.{Star, base, more, Reach, ReachFrom, MadeWith, ModifiedTo, ItemFrom, ItemMade}
 use Rattle.runs.specs.Outcome.{CarriedAll, stop, then}

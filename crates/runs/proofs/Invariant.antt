@@ -10,7 +10,8 @@ use native.Mathlib.Omega.{arith}
 use lib.ListN.{length, getD}
 use Rattle.runs.specs.Model.{Model}
 use Rattle.runs.specs.State.{Session, closed, opened, State, sessionAt, itemAt}
-use Rattle.runs.specs.Step.{Step, Carried, opens, closes, changes, makes, modifies, grants, stepped}
+use Rattle.runs.specs.Step.{Step, Carried, opens, closes, changes, makes, modifies, grants}
+use Rattle.runs.specs.Stepped.{stepped}
 use Rattle.runs.specs.Run.{orSame, run}
 use Rattle.runs.specs.Grant.{Who, session, user, anyone, Which, item, anything, IsWho, IsWhich}
 use Rattle.runs.specs.Reach.{base, more, Reach, ReachFrom, ItemFrom, ItemMade, ModifiedTo, Brought, WhoReach, WhichReach, AskedWho, AskedWhich}

@@ -11,7 +11,8 @@ use lib.ListN.{length, getD, set, List·getD-append}
 use lib.Seq.{getD-set-same, getD-append-seam, set-getD}
 use Rattle.runs.specs.Model.{Model}
 use Rattle.runs.specs.State.{Session, closed, opened, Item, State, sessionAt, itemAt, begin}
-use Rattle.runs.specs.Step.{Step, Carried, opens, closes, changes, makes, modifies, grants, when, whenOpen, toOpen, toClose, toChange, toMake, toModify, toAccess, byKind, stepped}
+use Rattle.runs.specs.Step.{Step, Carried, opens, closes, changes, makes, modifies, grants}
+use Rattle.runs.specs.Stepped.{when, whenOpen, toOpen, toClose, toChange, toMake, toModify, toAccess, byKind, stepped}
 use Rattle.runs.specs.Run.{orSame, run}
 
 abbrev pub state : List Session → List Item → State

@@ -7,7 +7,8 @@ use mathlib.Core.Option.{some}
 use Prim.Native.Nat.{ℕ, _+_, _*_, _^_}
 use Rattle.runs.specs.Model.{Model}
 use Rattle.runs.specs.State.{opened, Item, State, sessionAt, begin}
-use Rattle.runs.specs.Step.{Step, Carried, stepped}
+use Rattle.runs.specs.Step.{Step, Carried}
+use Rattle.runs.specs.Stepped.{stepped}
 use Rattle.runs.specs.Grant.{Who, Which, Leak}
 use Rattle.runs.specs.Reach.{Reach, Brought, WhichReach, AskedWho, AskedWhich, Risk}
 use Rattle.runs.specs.Outcome.{SessionStands, ItemStands, Below, LeakWithin}

@@ -2,7 +2,7 @@
 -- tells the answer. Assumes nothing.
 use mathlib.Core.Path.{_≡_, refl, sym, ap, _∙_}
 use native.Mathlib.Omega.{arith}
-use Rattle.format.specs.Format.{readFile}
+use Rattle.format.specs.File.{readFile}
 use Rattle.format.specs.Steps.{resOf, judged}
 use Rattle.format.specs.declared.Cursor.{Cursor}
 use Rattle.format.proofs.Chain.{from-good, chain-file}

@@ -1,0 +1,1 @@
+pub mod Verdicts  -- what the call of the analyser tells

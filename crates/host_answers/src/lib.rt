@@ -1,0 +1,59 @@
+// The calls of the analyser and of replay for hosts: each returns 0, or paper 01's number.
+ghost use mathlib.Core.Path.{_≡_};
+ghost use lib.ListN.{length};
+ghost use Rattle.rules.specs.Answers.{reading};
+ghost use Rattle.replay.specs.Replay.{replayed};
+ghost use Rattle.analyser.specs.Answer.{told};
+ghost use Rattle.analyser.specs.Never.{Means};
+ghost use Rattle.live.specs.Lent.{outcomeNumber};
+ghost use Rattle.host_answers.specs.Verdicts.{verdictNumber, verdictCode};
+use analyser::Verdict;
+use live::number_of;
+
+// 1 to 8, 10, 15, the number of the first row that is refused, and 17. The cells hold what ran: up to 10 and 15 they are as they were.
+pub fn replay_leak(
+    file: &[u8],
+    question: &[u8],
+    rows: &[u64],
+    sessions: &mut [u64],
+    items: &mut [u64],
+) -> u32
+    ensures { λ r. ⌜ r ≡ outcomeNumber (replayed (reading (now (file .entry))) (now (question .entry)) (now (rows .entry)) (now (sessions .entry)) (now (items .entry)) .outcome) ⌝ }
+    ensures { λ r. ⌜ now (sessions .exit) ≡ replayed (reading (now (file .entry))) (now (question .entry)) (now (rows .entry)) (now (sessions .entry)) (now (items .entry)) .lent .sessions ⌝ }
+    ensures { λ r. ⌜ now (items .exit) ≡ replayed (reading (now (file .entry))) (now (question .entry)) (now (rows .entry)) (now (sessions .entry)) (now (items .entry)) .lent .items ⌝ }
+{
+    let played = replay::replay(file, question, rows, sessions, items);
+    number_of(played)
+}
+
+// and then all four are 0. Unless it is a leak `rows` is as it was.
+pub fn answer(
+    file: &[u8],
+    question: &[u8],
+    rows: &mut [u64],
+    verdict: &mut u64,
+    pairs: &mut u64,
+    values: &mut u64,
+    count: &mut u64,
+) -> u32
+    ensures { λ r. ⌜ r ≡ verdictNumber (told (reading (now (file .entry))) (now (question .entry)) (length (now (rows .entry))) .verdict) ⌝ }
+    ensures { λ r. ⌜ now (verdict .exit) ≡ verdictCode (told (reading (now (file .entry))) (now (question .entry)) (length (now (rows .entry))) .verdict) ⌝ }
+    ensures { λ r. ⌜ now (pairs .exit) ≡ told (reading (now (file .entry))) (now (question .entry)) (length (now (rows .entry))) .pairs ⌝ }
+    ensures { λ r. ⌜ now (values .exit) ≡ told (reading (now (file .entry))) (now (question .entry)) (length (now (rows .entry))) .values ⌝ }
+    ensures { λ r. ⌜ Means (now (file .entry)) (now (question .entry)) (now (rows .entry)) (now (rows .exit)) record { verdict = told (reading (now (file .entry))) (now (question .entry)) (length (now (rows .entry))) .verdict; pairs = now (pairs .exit); values = now (values .exit); rows = now (count .exit) } ⌝ }
+{
+    let a = analyser::analyse(file, question, rows);
+    *pairs = a.pairs as u64;
+    *values = a.values as u64;
+    *count = a.rows as u64;
+    *verdict = 0;
+    let v = a.verdict;
+    match v {
+        Verdict::Refused(n) => n as u32,
+        Verdict::Safe => 0,
+        Verdict::Leak => {
+            *verdict = 1;
+            0
+        }
+    }
+}

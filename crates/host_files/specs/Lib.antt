@@ -1,0 +1,1 @@
+pub mod Numbers  -- what the calls on rule files return

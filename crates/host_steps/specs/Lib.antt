@@ -1,0 +1,1 @@
+pub mod Steps  -- what the calls on live states leave

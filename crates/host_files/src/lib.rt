@@ -14,7 +14,7 @@ pub fn read(file: &[u8]) -> u32
     let answer = p.answer;
     match answer {
         Reading::Accepted => 0,
-        Reading::Refused(n) => n as u32,
+        Reading::Refused(number) => number as u32,
     }
 }
 

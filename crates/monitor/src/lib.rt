@@ -1,19 +1,15 @@
-// The monitor: steps on lent cells. What a step does is in crate steps, specs/Step; how cells are coded in docs/CELLS.md.
+// The monitor: steps on lent cells, each judged and then done. What a step does is in crate steps, specs/Step; how cells are coded in
+// docs/CELLS.md.
 ghost use mathlib.Core.Path.{_≡_};
 ghost use Rattle.policy.specs.Rules.{policyOf};
 ghost use Rattle.allowed.specs.Allowed.{modelOf};
 ghost use Rattle.live.specs.Lent.{leaves, lentAs};
 ghost use Rattle.steps.specs.Step.{stepIn};
-
-mod items;
-mod numbers;
-mod sessions;
-
-use cells::Row;
+use judge::apply;
+use judge::judge;
 use live::Next;
 use live::Outcome;
 use live::Stepped;
-use live::refused;
 use policy::Rules;
 
 // Carries out the step of a row, or gives its first number 12 to 16 and changes nothing. At most the target's cell is written. Any cells,
@@ -27,20 +23,8 @@ pub fn step_at(
 ) -> Stepped
     ensures { λ r. ⌜ leaves (r .outcome) (r .next) (now (sessions .exit)) (now (items .exit)) ≡ stepIn (modelOf (policyOf rules)) (lentAs (now (sessions .entry)) (now (items .entry)) next) row ⌝ }
 {
-    let r = Row::of(row);
-    if r.spare != 0 {
-        return refused(next, 12);
-    }
-    let kind = r.kind;
-    match kind {
-        1 => sessions::open_session(rules, sessions, next, r),
-        2 => sessions::close_session(rules, sessions, next, r),
-        3 => sessions::change_session(rules, sessions, next, r),
-        4 => items::make_item(rules, sessions, items, next, r),
-        5 => items::change_item(rules, sessions, items, next, r),
-        6 => items::access_item(rules, sessions, items, next, r),
-        _ => refused(next, 12),
-    }
+    let judged = judge(rules, sessions, items, next, row);
+    apply(judged, sessions, items)
 }
 
 // As `step_at`, with the next numbers lent: they are brought up to date where the step is carried out, and stay as they were where it is

@@ -112,4 +112,3 @@ pub extern "C" fn rights_analyse(
 {
     host_answers::answer(file, question, rows, verdict, pairs, values, count)
 }
-

@@ -1,12 +1,11 @@
--- `monitor::numbers::is_left` meets its contract.
+-- `judge::numbers::is_left` meets its contract.
 use borrow.Author.Tests.{lt-ltb, le-ltb}
 use Rattle.live.specs.Lent.{numbers, left}
-use borrow.Author.Needs.{needs}
-use Rattle.monitor.proofs.numbers.is_left.Statement.{statement}
-use Rattle.monitor.proofs.numbers.is_left.Tie as tie
+use Rattle.judge.proofs.numbers.is_left.Statement.{statement}
+use Rattle.judge.proofs.numbers.is_left.Tie as tie
 
 place-requires : tie.Need-place-requires
-place-requires c κs = search needs
+place-requires c κs = tt
 
 returns : tie.Need-returns
 unfolding left numbers

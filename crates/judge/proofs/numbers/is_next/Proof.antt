@@ -1,8 +1,8 @@
--- `monitor::numbers::is_next` meets its contract.
+-- `judge::numbers::is_next` meets its contract.
 use borrow.Author.Tests.{le-leb, lt-leb}
 use Rattle.live.specs.Lent.{numbers, allGiven}
-use Rattle.monitor.proofs.numbers.is_next.Statement.{statement}
-use Rattle.monitor.proofs.numbers.is_next.Tie as tie
+use Rattle.judge.proofs.numbers.is_next.Statement.{statement}
+use Rattle.judge.proofs.numbers.is_next.Tie as tie
 
 returns : tie.Need-returns
 unfolding allGiven numbers

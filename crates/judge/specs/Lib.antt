@@ -1,0 +1,1 @@
+pub mod Judge  -- what a judged step leaves where it is done

@@ -19,13 +19,26 @@ use Rattle.leak.specs.Leak.{leakWritten}
 use Rattle.leak.specs.declared.Pen.{Pen}
 use Rattle.leak.specs.declared.Aim.{Aim}
 use Rattle.replay.specs.declared.question.Question.{Question}
-use Rattle.analyser.specs.Found.{anyHas, Names, foundPairs, hitValue, hitPlace, PenReady}
-use Rattle.analyser.specs.Decide.{itemFound, sessionFound, whoFound, aimOf, leakPlace, leakValue, LeakLeft, DecidedBy}
+use Rattle.users.specs.Found.{anyHas, Names, foundPairs}
+use Rattle.asked.specs.Asked.{hitValue, hitPlace, PenReady}
+use Rattle.asked.specs.Asked.{itemFound, sessionFound, whoFound, aimOf}
+use Rattle.analyser.specs.Decide.{leakPlace, leakValue, LeakLeft, DecidedBy}
 use Rattle.analyser.specs.declared.Answer.{Answer}
 use Rattle.analyser.specs.declared.Verdict.{Verdict}
 use Rattle.analyser.specs.declared.Verdict.the-variants as Verdict
-use Rattle.analyser.proofs.Questions.{hit-inside, hit-value-ext, hit-place-ext, who-ext, leak-place, leak-value}
-use Rattle.analyser.proofs.Helpers.{item-ext, item-shallow}
+use Rattle.asked.proofs.Questions.{hit-inside, hit-value-ext, hit-place-ext, who-ext}
+use Rattle.asked.proofs.Helpers.{item-ext, item-shallow}
+
+-- where the first leak is
+module _ (r : Rules) (users : List Found) (q : Question) where
+  leak-place : hitPlace (modelOf (policyOf r)) (q .permission) (whoFound users (anyHas users) (sessionFound r q) q) (itemFound r (anyHas users) q) ≡ leakPlace r users q
+  unfolding leakPlace
+  leak-place = refl
+
+  leak-value :
+      hitValue (modelOf (policyOf r)) (q .permission) (whoFound users (anyHas users) (sessionFound r q) q) (itemFound r (anyHas users) q) (leakPlace r users q) ≡ leakValue r users q
+  unfolding leakValue
+  leak-value = refl
 
 module _ (r : Rules) (users : List Found) (q : Question) (helpers : List ℕ) (items own : Found) (who : List ℕ) (place : ℕ)
     (H : Lanes (anyHas users) helpers) (I : items ≡ itemFound r (laneOf helpers) q) (O : own ≡ sessionFound r q)

@@ -25,10 +25,11 @@ use Rattle.leak.specs.Writing.{writingOf}
 use Rattle.leak.specs.Claims.{IsLeak}
 use Rattle.leak.proofs.Theorems.{leak-is-written}
 use Rattle.analyser.specs.Answer.{sessionValues, itemValues, rowsNeeded}
-use Rattle.analyser.specs.Found.{UsersFound, anyHas, allFound}
-use Rattle.analyser.specs.Decide.{itemFound, sessionFound, aimOf, leakPlace, leakValue, LeakLeft}
+use Rattle.users.specs.Found.{UsersFound, anyHas, allFound}
+use Rattle.asked.specs.Asked.{itemFound, sessionFound, aimOf}
+use Rattle.analyser.specs.Decide.{leakPlace, leakValue, LeakLeft}
 use Rattle.analyser.proofs.Widths.{needed-is, sessions-few, items-few, users-are}
-use Rattle.analyser.proofs.UsersReach.{all-agree}
+use Rattle.users.proofs.UsersReach.{all-agree}
 use Rattle.analyser.proofs.Hits.{Hit, hit-here, hits-agree}
 use Rattle.analyser.proofs.Asked.{Asks, asked-which, aim-permission, below, few-users, tested, who-tests}
 use Rattle.analyser.proofs.Aims.{item-search, hit-aimed, pen-stands}

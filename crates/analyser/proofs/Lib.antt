@@ -1,10 +1,5 @@
-pub mod Laws  -- what the users' searches find together, one more at a time
-pub mod Starts  -- starting sessions, one more at a time, and the pen
-pub mod Questions  -- the first hit, rows, and the searches that a question asks for
-pub mod Helpers  -- a search of items asks of helpers below 256 only, and its depths are small
 pub mod Decided  -- what deciding comes to
 pub mod Widths  -- of a file's rules: widths, how values are bounded, what stands at the start
-pub mod UsersReach  -- the users' searches are what their sessions can have
 pub mod ItemsReach  -- the search of items is what one that is asked about can have
 pub mod Hits  -- there is a hit exactly where the verdict is a leak
 pub mod Asked  -- what a question asks, and what the searches say of it

@@ -1,11 +1,11 @@
--- Laws of a file's rules, for the theory of answers. In order: how many values there are and what rows they need; what stands at the start;
--- rules in memory.
+-- Laws of a file's rules, for the theory of answers. In order: the rows that widths need; how many values there are and what rows they need; what
+-- stands at the start; rules in memory.
 use mathlib.Core.Path.{_≡_, refl, sym, ap, _∙_}
 use mathlib.Core.Bool.{Bool, cond}
 use mathlib.Core.List.{List, [], _∷_, map}
 use Prim.Native.Nat.{ℕ, zero, suc, _+_, _*_, _^_, _≤_, _<_}
 use native.Mathlib.Omega.{arith}
-use borrow.Author.Tests.{le-ltb}
+use borrow.Author.Tests.{lt-ltb, le-ltb}
 use lib.Dec.{ltb}
 use lib.ListN.{length, getD, length-map}
 use lib.Pow.{pow-mono}
@@ -22,6 +22,19 @@ use Rattle.allowed.specs.Allowed.{modelOf}
 use Rattle.starting.specs.Start.{beginning}
 use Rattle.analyser.specs.Answer.{sessionValues, itemValues, rowsNeeded}
 use Rattle.analyser.specs.Decide.{rowsFor}
+
+module _ (s o : ℕ) where
+  pub rows-session : 8 < s → 0 ≡ rowsFor s o
+  unfolding rowsFor
+  rows-session h = simp (lt-ltb 8 s h)
+
+  pub rows-item : s ≤ 8 → 8 < o → 0 ≡ rowsFor s o
+  unfolding rowsFor
+  rows-item h l = simp (le-ltb 8 s h, lt-ltb 8 o l)
+
+  pub rows-are : s ≤ 8 → o ≤ 8 → 2 ^ s + 2 ^ o * (2 ^ s + 1) + 1 ≡ rowsFor s o
+  unfolding rowsFor
+  rows-are h l = simp (le-ltb 8 s h, le-ltb 8 o l)
 
 module _ (p : Policy) where
   pub needed-is : rowsNeeded p ≡ sessionValues p + itemValues p * (sessionValues p + 1) + 1

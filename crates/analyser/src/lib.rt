@@ -7,17 +7,14 @@ ghost use Rattle.policy.specs.Policy.{width};
 ghost use Rattle.policy.specs.Rules.{attrsOf};
 ghost use Rattle.allowed.specs.Basis.{BasisOf};
 ghost use Rattle.analyser.specs.Answer.{told};
-ghost use Rattle.analyser.specs.Found.{userFound};
+ghost use Rattle.users.specs.Found.{userFound};
 ghost use Rattle.analyser.specs.Decide.{rowsFor, DecidedBy};
 ghost use Rattle.analyser.specs.Never.{Means};
-
-mod about;
-mod aim;
-mod hit;
-mod users;
-
 use allowed::Basis;
 use allowed::basis_of;
+use asked::about;
+use asked::aim;
+use asked::hit;
 use leak::write_leak;
 use policy::Rules;
 use policy::shape::class_width;

@@ -2,7 +2,7 @@
 use mathlib.Core.Path.{ap₂, _∙_}
 use Prim.Native.Nat.{ℕ, _+_, _*_}
 use native.Mathlib.Omega.{arith}
-use Rattle.analyser.proofs.Questions.{rows-session, rows-item, rows-are}
+use Rattle.analyser.proofs.Widths.{rows-session, rows-item, rows-are}
 use native.Mathlib.Nat.{mul-le-mul}
 use Rattle.policy.specs.Policy.{width}
 use Rattle.policy.specs.Rules.{attrsOf}

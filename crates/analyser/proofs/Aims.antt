@@ -25,9 +25,9 @@ use Rattle.replay.specs.declared.question.Question.{Question}
 use Rattle.search.specs.Sessions.{sessionsFound}
 use Rattle.search.specs.Items.{oneFound, anyFound}
 use Rattle.search.specs.declared.queue.Found.{Found}
-use Rattle.leak.specs.Writing.{writingOf}
+use Rattle.way.specs.Writing.{writingOf}
 use Rattle.leak.specs.Standing.{Stands, named, Ready, WhoAimed, Aimed}
-use Rattle.leak.specs.declared.Pen.{Pen}
+use Rattle.way.specs.declared.Pen.{Pen}
 use Rattle.users.specs.Found.{userFound, UsersFound, anyHas, Names}
 use Rattle.asked.specs.Asked.{PenReady}
 use Rattle.asked.specs.Asked.{itemFound, sessionFound, aimOf}

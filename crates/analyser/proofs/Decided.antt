@@ -14,9 +14,9 @@ use Rattle.policy.specs.declared.Rules.{Rules}
 use Rattle.allowed.specs.Allowed.{modelOf}
 use Rattle.search.specs.Searched.{depthAt}
 use Rattle.search.specs.declared.queue.Found.{Found}
-use Rattle.leak.specs.Writing.{Writing, writingOf, Wrote}
+use Rattle.way.specs.Writing.{Writing, writingOf, Wrote}
 use Rattle.leak.specs.Leak.{leakWritten}
-use Rattle.leak.specs.declared.Pen.{Pen}
+use Rattle.way.specs.declared.Pen.{Pen}
 use Rattle.leak.specs.declared.Aim.{Aim}
 use Rattle.replay.specs.declared.question.Question.{Question}
 use Rattle.users.specs.Found.{anyHas, Names, foundPairs}

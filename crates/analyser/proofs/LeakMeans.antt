@@ -21,7 +21,7 @@ use Rattle.replay.specs.Question.{partsOf, whoOf, whichOf}
 use Rattle.replay.specs.Claims.{RunLeak}
 use Rattle.replay.specs.declared.question.Question.{Question}
 use Rattle.search.specs.declared.queue.Found.{Found}
-use Rattle.leak.specs.Writing.{writingOf}
+use Rattle.way.specs.Writing.{writingOf}
 use Rattle.leak.specs.Claims.{IsLeak}
 use Rattle.leak.proofs.Theorems.{leak-is-written}
 use Rattle.analyser.specs.Answer.{sessionValues, itemValues, rowsNeeded}

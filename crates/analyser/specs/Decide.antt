@@ -11,9 +11,9 @@ use Rattle.policy.specs.Rules.{policyOf, sessionsOf}
 use Rattle.policy.specs.declared.Rules.{Rules}
 use Rattle.allowed.specs.Allowed.{modelOf}
 use Rattle.search.specs.declared.queue.Found.{Found}
-use Rattle.leak.specs.Writing.{writingOf}
+use Rattle.way.specs.Writing.{writingOf}
 use Rattle.leak.specs.Leak.{leakWritten}
-use Rattle.leak.specs.declared.Pen.{Pen}
+use Rattle.way.specs.declared.Pen.{Pen}
 use Rattle.replay.specs.declared.question.Question.{Question}
 use Rattle.users.specs.Found.{anyHas, Names, foundPairs}
 use Rattle.asked.specs.Asked.{itemFound, sessionFound, whoFound, aimOf, hitValue, hitPlace, PenReady}

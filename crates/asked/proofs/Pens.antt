@@ -10,7 +10,7 @@ use Rattle.policy.specs.Policy.{Session}
 use Rattle.policy.specs.Rules.{sessionsOf}
 use Rattle.policy.specs.declared.Sessions.{Sessions}
 use Rattle.policy.proofs.Laws.{sessions-length}
-use Rattle.leak.specs.declared.Pen.{Pen}
+use Rattle.way.specs.declared.Pen.{Pen}
 use Rattle.users.proofs.Starts.{session-at}
 use Rattle.asked.specs.Asked.{PenReady}
 

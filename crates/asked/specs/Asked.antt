@@ -18,7 +18,7 @@ use Rattle.search.specs.Queue.{nothing}
 use Rattle.search.specs.Sessions.{ownFound}
 use Rattle.search.specs.Items.{oneFound, anyFound}
 use Rattle.search.specs.declared.queue.Found.{Found}
-use Rattle.leak.specs.declared.Pen.{Pen}
+use Rattle.way.specs.declared.Pen.{Pen}
 use Rattle.leak.specs.declared.Aim.{Aim}
 use Rattle.replay.specs.declared.question.Question.{Question}
 use Rattle.users.specs.Found.{userFound}

@@ -2,9 +2,9 @@
 ghost use mathlib.Core.Path.{_≡_};
 ghost use Rattle.policy.specs.Rules.{sessionsOf};
 ghost use Rattle.asked.specs.Asked.{PenReady};
-use leak::Pen;
 use policy::Sessions;
 use policy::shape::byte_at;
+use way::Pen;
 
 // Whether a session of user u is kept for a value, where the session of that number plus 1 is now, if any.
 fn keeps(number: u32, u: u8, asked: u8) -> bool {

@@ -1,4 +1,3 @@
-pub mod Laws  -- rows written one after another
 pub mod Parts  -- the parts of a leak, as each function writes them
 pub mod Rows  -- rows that are carried out
 pub mod Ways  -- the rows of a way

@@ -1,6 +1,4 @@
 -- in reading order
-pub mod Writing  -- rows written so far, and the sessions that stand open
-pub mod Way  -- the rows that bring a session to a value
 pub mod Leak  -- the rows of a leak
 pub mod Turn  -- one step on the way of an item
 pub mod Standing  -- what the rows so far have brought about in a run

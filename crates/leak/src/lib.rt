@@ -3,25 +3,14 @@ ghost use mathlib.Core.Path.{_≡_};
 ghost use mathlib.Core.List.{List, _∷_, []};
 ghost use Prim.Native.Nat.{ℕ, _+_, _-_, _≤_, _<_};
 ghost use lib.ListN.{length};
-ghost use Rattle.leak.specs.Writing.{writingOf, Wrote};
+ghost use Rattle.way.specs.Writing.{writingOf, Wrote};
 ghost use Rattle.search.specs.Searched.{depthAt};
 ghost use Rattle.search.specs.declared.queue.Found.{Found};
 ghost use Rattle.leak.specs.Turn.{itemTurn};
 ghost use Rattle.leak.specs.Leak.{linked, itemTo, itemOf, actorReady, actorOf, leakWritten};
-
-mod end;
-mod way;
-
 use search::queue::Found;
-
-// Where the rows so far end, the next session number, and of each session value the number plus 1 of a session that stands open with it, or 0,
-// and its user.
-pub struct Pen {
-    pub at: usize,
-    pub next: u64,
-    pub number: [u32; 256],
-    pub owner: [u8; 256],
-}
+use way::Pen;
+use way::end;
 
 // What a leak aims at: who is asked about (0 a starting session, with its owner; 1 a user; 2 anyone), the value that the actor is to have, how many
 // starting items there are, and the permission.

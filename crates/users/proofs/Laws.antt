@@ -2,9 +2,9 @@
 -- pairs. Not here: starting sessions (Starts), what sessions can have (UsersReach).
 use mathlib.Core.Path.{_≡_, refl, sym, ap, _∙_, subst}
 use mathlib.Core.Bool.{Bool, true, false, not, _&&_, _||_, cond}
-use mathlib.Core.List.{List, [], _∷_}
+use mathlib.Core.List.{List}
 use mathlib.Core.Logic.{_⊎_, inl, inr, ⊎-elim}
-use Prim.Native.Nat.{ℕ, zero, suc, _+_, _-_, _≤_, _<_}
+use Prim.Native.Nat.{ℕ, _+_, _-_, _≤_, _<_}
 use native.Mathlib.Decide.{ℕ-discrete, decLt}
 use native.Mathlib.Numerals.{add-one}
 use native.Mathlib.Omega.{arith}
@@ -31,12 +31,6 @@ use Rattle.users.specs.Found.{userFound, UsersFound, anyHas, Names, name
 pub model-users : (r : Rules) → modelOf (policyOf r) .users ≡ r .users .count
 unfolding modelOf policyOf
 model-users r = values-length (r .users)
-
--- what stands at a place of a list that is long enough, whatever stands past its end
-pub getD-any : {A : Type 0} (l : List A) (i : ℕ) (d e : A) → i < length l → getD l i d ≡ getD l i e
-getD-any [] i d e h = absurd (omega arith)
-getD-any (x ∷ l) zero d e h = refl
-getD-any (x ∷ l) (suc i) d e h = getD-any l i d e (omega arith)
 
 -- the searches of the users below u are there
 pub record Searching (m : Model) (n : ℕ) (users : List Found) (u : ℕ) : Type 0 where

@@ -10,7 +10,7 @@ use Rattle.lanes.specs.Lanes.{laneOf}
 use Rattle.policy.specs.Rules.{sessionsOf}
 use Rattle.search.specs.Queue.{nothing}
 use Rattle.search.specs.declared.queue.Found.{Found}
-use Rattle.users.proofs.Laws.{getD-any}
+use Rattle.way.proofs.Laws.{getD-any}
 use Rattle.users.proofs.Starts.{session-at, found-all, found-not, brought, brought-none}
 use Rattle.policy.specs.Policy.{Session}
 use Rattle.policy.proofs.Laws.{sessions-length}

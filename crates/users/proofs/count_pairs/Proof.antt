@@ -6,7 +6,8 @@ use native.Mathlib.Omega.{arith}
 use lib.ListN.{length}
 use Rattle.search.specs.Queue.{nothing}
 use Rattle.search.specs.declared.queue.Found.{Found}
-use Rattle.users.proofs.Laws.{getD-any, pairs-none, pairs-more}
+use Rattle.way.proofs.Laws.{getD-any}
+use Rattle.users.proofs.Laws.{pairs-none, pairs-more}
 use Rattle.users.specs.Found.{foundPairs}
 use borrow.Author.Needs.{needs}
 use Rattle.users.proofs.count_pairs.Statement.{statement}

@@ -7,7 +7,8 @@ use lib.ListN.{length}
 use Rattle.lanes.specs.Lanes.{laneOf, Lanes}
 use Rattle.search.specs.Queue.{nothing}
 use Rattle.search.specs.declared.queue.Found.{Found}
-use Rattle.users.proofs.Laws.{getD-any, someHas, some-zero, some-more, any-has}
+use Rattle.way.proofs.Laws.{getD-any}
+use Rattle.users.proofs.Laws.{someHas, some-zero, some-more, any-has}
 use Rattle.lanes.proofs.Laws.{lanes-as}
 use borrow.Author.Needs.{needs}
 use Rattle.users.proofs.helpers.Statement.{statement}

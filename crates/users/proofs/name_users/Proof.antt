@@ -5,7 +5,8 @@ use native.Mathlib.Omega.{arith}
 use lib.ListN.{length}
 use Rattle.search.specs.Queue.{nothing}
 use Rattle.search.specs.declared.queue.Found.{Found}
-use Rattle.users.proofs.Laws.{getD-any, Naming, naming-none, naming-more, naming-all}
+use Rattle.way.proofs.Laws.{getD-any}
+use Rattle.users.proofs.Laws.{Naming, naming-none, naming-more, naming-all}
 use borrow.Author.Needs.{needs}
 use Rattle.users.proofs.name_users.Statement.{statement}
 use Rattle.users.proofs.name_users.Tie as tie

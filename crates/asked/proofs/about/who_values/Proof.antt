@@ -5,7 +5,7 @@ use lib.ListN.{length}
 use Rattle.lanes.specs.Lanes.{laneOf}
 use Rattle.search.specs.Queue.{nothing}
 use Rattle.search.specs.declared.queue.Found.{Found}
-use Rattle.users.proofs.Laws.{getD-any}
+use Rattle.way.proofs.Laws.{getD-any}
 use Rattle.asked.proofs.Questions.{who-session, who-user, who-no-user, who-any}
 use Rattle.lanes.proofs.Laws.{lanes-as, lanes-own}
 use borrow.Author.Needs.{needs}

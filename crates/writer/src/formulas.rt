@@ -7,12 +7,12 @@ ghost use Rattle.format.specs.Steps.{Stores};
 ghost use Rattle.policy.specs.Nodes.{nodeOk};
 ghost use Rattle.policy.specs.File.{formulaFormat};
 ghost use Rattle.policy.specs.Rules.{listsOf, nodesOf, formulasOf};
-use super::head::put_range;
 use format::Cursor;
 use format::put_field;
 use policy::Classes;
 use policy::nodes::node_ok;
 use policy::shape::byte_at;
+use preface::put_range;
 
 // Element k, or 0 past the end.
 fn node_at(nodes: &[u32], k: usize) -> u32

@@ -9,28 +9,16 @@ ghost use Rattle.policy.specs.File.{policyFormat};
 ghost use Rattle.policy.specs.Rules.{policyOf};
 
 mod formulas;
-mod head;
-mod lists;
 mod values;
 
 use format::Cursor;
 use formulas::put_formulas;
-use head::put_counts;
-use lists::put_classes;
 use policy::Rules;
+use preface::Counts;
+use preface::lists::put_classes;
+use preface::put_counts;
 use values::put_sessions;
 use values::put_values;
-
-// The head's counts.
-pub struct Counts {
-    pub user: u8,
-    pub session: u8,
-    pub item: u8,
-    pub users: u8,
-    pub sessions: u8,
-    pub items: u8,
-    pub permissions: u8,
-}
 
 // The whole file up to its filling bits.
 pub fn put_policy(out: &mut [u8], rules: Rules) -> Cursor

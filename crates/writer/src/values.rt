@@ -6,7 +6,6 @@ ghost use Rattle.format.specs.Steps.{Stores};
 ghost use Rattle.policy.specs.Policy.{Session};
 ghost use Rattle.policy.specs.File.{valueFormat, sessionFormat};
 ghost use Rattle.policy.specs.Rules.{attrsOf, valuesOf, sessionsOf};
-use super::head::put_range;
 use bits::high_bits;
 use bits::low_bits;
 use format::Cursor;
@@ -18,6 +17,7 @@ use policy::shape::bits_for;
 use policy::shape::byte_at;
 use policy::shape::class_width;
 use policy::shape::code_ok;
+use preface::put_range;
 
 // A holder's value: its attributes' values one after another. What is left above the first attribute's codes is judged with it, and with
 // no attribute only 0 is a value.

@@ -1,9 +1,9 @@
--- `writer::head::put_range` meets its contract: the field was judged by what `within` says of its number.
+-- `preface::put_range` meets its contract: the field was judged by what `within` says of its number.
 use native.Mathlib.Omega.{arith}
 use Rattle.format.specs.Format.{within}
 use Rattle.format.proofs.Store.{stores-field}
-use Rattle.writer.proofs.head.put_range.Statement.{statement}
-use Rattle.writer.proofs.head.put_range.Tie as tie
+use Rattle.preface.proofs.put_range.Statement.{statement}
+use Rattle.preface.proofs.put_range.Tie as tie
 
 within-requires : tie.Need-within-requires
 within-requires c κs = tt

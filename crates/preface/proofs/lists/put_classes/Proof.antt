@@ -1,11 +1,11 @@
--- `writer::lists::put_classes` meets its contract: the three classes, one after another.
+-- `preface::lists::put_classes` meets its contract: the three classes, one after another.
 use native.Mathlib.Omega.{arith}
 use Rattle.format.proofs.Store.{stores-pair, stores-via}
 use Rattle.policy.specs.File.{listsFormat}
 use Rattle.policy.specs.Rules.{listsOf}
-use Rattle.writer.specs.Parts.{headFor}
-use Rattle.writer.proofs.lists.put_classes.Statement.{statement}
-use Rattle.writer.proofs.lists.put_classes.Tie as tie
+use Rattle.preface.specs.Parts.{headFor}
+use Rattle.preface.proofs.lists.put_classes.Statement.{statement}
+use Rattle.preface.proofs.lists.put_classes.Tie as tie
 
 put-class-requires : tie.Need-put-class-requires
 put-class-requires c κs = omega arith

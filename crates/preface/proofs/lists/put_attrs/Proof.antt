@@ -1,4 +1,4 @@
--- `writer::lists::put_attrs` meets its contract. The loop's invariant: the first i attributes are stored, in no more than 12 bits each, and
+-- `preface::lists::put_attrs` meets its contract. The loop's invariant: the first i attributes are stored, in no more than 12 bits each, and
 -- the bytes are as many as before. The measure is how many attributes are left.
 use mathlib.Core.Path.{_≡_, refl}
 use Prim.Native.Nat.{_+_, _*_, _-_, _≤_}
@@ -11,8 +11,8 @@ use Rattle.format.proofs.Store.{stores-rows-begin, stores-rows-turn}
 use Rattle.policy.specs.File.{attrFormat}
 use Rattle.policy.specs.Rules.{attrAt, attrsOf}
 use Rattle.policy.proofs.Laws.{attrs-none, attrs-next, attrs-length}
-use Rattle.writer.proofs.lists.put_attrs.Statement.{statement}
-use Rattle.writer.proofs.lists.put_attrs.Tie as tie
+use Rattle.preface.proofs.lists.put_attrs.Statement.{statement}
+use Rattle.preface.proofs.lists.put_attrs.Tie as tie
 
 abbrev Inv-loop : tie.InvT-loop
 Inv-loop out₀ kinds sizes p₀ i₀ i-end out p i =

@@ -2,7 +2,7 @@
 -- Assumes nothing.
 use Rattle.policy.specs.Policy.{Head}
 use Rattle.policy.specs.declared.Classes.{Classes}
-use Rattle.writer.specs.declared.Counts.{Counts}
+use Rattle.preface.specs.declared.Counts.{Counts}
 
 -- the head of some counts
 unfoldable pub headOf : Counts → Head

@@ -1,10 +1,10 @@
--- `writer::head::put_counts` meets its contract: the head is its seven counts and the zero bits, each stored after the one before it.
+-- `preface::put_counts` meets its contract: the head is its seven counts and the zero bits, each stored after the one before it.
 use native.Mathlib.Omega.{arith}
 use Rattle.format.proofs.Store.{stores-pair, stores-via, stores-zeros}
 use Rattle.policy.specs.File.{count, headFormat}
-use Rattle.writer.specs.Parts.{headOf}
-use Rattle.writer.proofs.head.put_counts.Statement.{statement}
-use Rattle.writer.proofs.head.put_counts.Tie as tie
+use Rattle.preface.specs.Parts.{headOf}
+use Rattle.preface.proofs.put_counts.Statement.{statement}
+use Rattle.preface.proofs.put_counts.Tie as tie
 
 put-range-requires : tie.Need-put-range-requires
 put-range-requires c κs = omega arith

@@ -6,8 +6,8 @@ ghost use Rattle.format.specs.Steps.{Stores};
 ghost use Rattle.policy.specs.Policy.{Attr};
 ghost use Rattle.policy.specs.File.{attrFormat, classFormat, listsFormat};
 ghost use Rattle.policy.specs.Rules.{attrsOf, listsOf};
-ghost use Rattle.writer.specs.Parts.{headFor};
-use super::head::put_range;
+ghost use Rattle.preface.specs.Parts.{headFor};
+use super::put_range;
 use format::Cursor;
 use format::judged;
 use format::put_field;
@@ -54,7 +54,7 @@ fn put_class(out: &mut [u8], at: Cursor, class: Class) -> Cursor
 }
 
 // The attributes of all three classes.
-pub(super) fn put_classes(out: &mut [u8], at: Cursor, classes: Classes) -> Cursor
+pub fn put_classes(out: &mut [u8], at: Cursor, classes: Classes) -> Cursor
     requires { ⌜ at .pos < 2 ^ 37 ⌝ }
     ensures { λ r. ⌜ Stores (listsFormat (headFor classes)) (listsOf classes) (now (out .entry)) (now (out .exit)) at r ⌝ }
     ensures { λ r. ⌜ r .pos ≤ at .pos + 36 * 255 ⌝ }

@@ -1,9 +1,9 @@
--- `writer::lists::put_attr` meets its contract: the kind, the size, which the kind bounds, and the zero bits, each stored after the one before it.
+-- `preface::lists::put_attr` meets its contract: the kind, the size, which the kind bounds, and the zero bits, each stored after the one before it.
 use native.Mathlib.Omega.{arith}
 use Rattle.format.proofs.Store.{stores-pair, stores-via, stores-zeros}
 use Rattle.policy.specs.File.{attrFormat}
-use Rattle.writer.proofs.lists.put_attr.Statement.{statement}
-use Rattle.writer.proofs.lists.put_attr.Tie as tie
+use Rattle.preface.proofs.lists.put_attr.Statement.{statement}
+use Rattle.preface.proofs.lists.put_attr.Tie as tie
 
 put-range-requires : tie.Need-put-range-requires
 put-range-requires c κs = omega arith

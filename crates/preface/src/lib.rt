@@ -1,25 +1,30 @@
-// The head, and the one step that most fields are stored by.
+// Storing what stands before the values of a file: the head, the lists of attributes (lists), and the one step that most fields are stored by.
 ghost use mathlib.Core.Path.{_≡_};
 ghost use Prim.Native.Nat.{_+_, _^_, _≤_, _<_};
 ghost use Rattle.format.specs.Format.{Format, field, within as withinOf};
 ghost use Rattle.format.specs.Steps.{Stores};
 ghost use Rattle.policy.specs.File.{headFormat};
-ghost use Rattle.writer.specs.Parts.{headOf};
-use super::Counts;
+ghost use Rattle.preface.specs.Parts.{headOf};
+
+pub mod lists;
+
 use format::Cursor;
 use format::put_field;
 use format::within;
 
+// The head's counts.
+pub struct Counts {
+    pub user: u8,
+    pub session: u8,
+    pub item: u8,
+    pub users: u8,
+    pub sessions: u8,
+    pub items: u8,
+    pub permissions: u8,
+}
+
 // A field of w bits from lo up to, not including, end; any other number is refused with n.
-pub(super) fn put_range(
-    out: &mut [u8],
-    at: Cursor,
-    w: u8,
-    x: u8,
-    lo: u64,
-    end: u64,
-    n: u8,
-) -> Cursor
+pub fn put_range(out: &mut [u8], at: Cursor, w: u8, x: u8, lo: u64, end: u64, n: u8) -> Cursor
     requires { ⌜ (at .pos < 2 ^ 40) × (0 < n) ⌝ }
     ensures { λ r. ⌜ Stores (field w (withinOf lo end) n) x (now (out .entry)) (now (out .exit)) at r ⌝ }
     ensures { λ r. ⌜ r .pos ≤ at .pos + w ⌝ }
@@ -29,7 +34,7 @@ pub(super) fn put_range(
 }
 
 // The head's counts.
-pub(super) fn put_counts(out: &mut [u8], at: Cursor, h: Counts) -> Cursor
+pub fn put_counts(out: &mut [u8], at: Cursor, h: Counts) -> Cursor
     requires { ⌜ at .pos < 2 ^ 39 ⌝ }
     ensures { λ r. ⌜ Stores headFormat (headOf h) (now (out .entry)) (now (out .exit)) at r ⌝ }
     ensures { λ r. ⌜ r .pos ≤ at .pos + 40 ⌝ }

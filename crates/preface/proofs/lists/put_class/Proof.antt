@@ -1,4 +1,4 @@
--- `writer::lists::put_class` meets its contract: the attributes, then the check on their width.
+-- `preface::lists::put_class` meets its contract: the attributes, then the check on their width.
 use mathlib.Core.Path.{ap}
 use Prim.Native.Nat.{ℕ}
 use native.Mathlib.Omega.{arith}
@@ -7,8 +7,8 @@ use Rattle.format.specs.declared.Cursor.{Cursor}
 use Rattle.format.proofs.Fault.{judged-pos}
 use Rattle.format.proofs.Store.{stores-check}
 use Rattle.policy.specs.File.{classFormat}
-use Rattle.writer.proofs.lists.put_class.Statement.{statement}
-use Rattle.writer.proofs.lists.put_class.Tie as tie
+use Rattle.preface.proofs.lists.put_class.Statement.{statement}
+use Rattle.preface.proofs.lists.put_class.Tie as tie
 
 put-attrs-requires : tie.Need-put-attrs-requires
 put-attrs-requires c κs = omega arith

@@ -25,14 +25,14 @@ use Rattle.replay.specs.declared.question.Question.{Question}
 use Rattle.search.specs.Sessions.{sessionsFound}
 use Rattle.search.specs.Items.{oneFound, anyFound}
 use Rattle.search.specs.declared.queue.Found.{Found}
-use Rattle.way.specs.Writing.{writingOf}
+use Rattle.session_rows.specs.Writing.{writingOf}
 use Rattle.leak.specs.Standing.{Stands, named, Ready, WhoAimed, Aimed}
-use Rattle.way.specs.declared.Pen.{Pen}
-use Rattle.users.specs.Found.{userFound, UsersFound, anyHas, Names}
-use Rattle.asked.specs.Asked.{PenReady}
-use Rattle.asked.specs.Asked.{itemFound, sessionFound, aimOf}
+use Rattle.session_rows.specs.declared.Pen.{Pen}
+use Rattle.user_searches.specs.Found.{userFound, UsersFound, anyHas, Names}
+use Rattle.goal.specs.Asked.{PenReady}
+use Rattle.goal.specs.Asked.{itemFound, sessionFound, aimOf}
 use Rattle.analyser.proofs.Widths.{users-are, beginning-items, beginning-long, beginning-session, sessions-few, items-few, rules-sessions, rules-items, rules-items-long, rules-item}
-use Rattle.users.proofs.UsersReach.{user-is, user-lane}
+use Rattle.user_searches.proofs.UsersReach.{user-is, user-lane}
 use Rattle.analyser.proofs.ItemsReach.{ItemSearch, one-search, any-search, good-as}
 use Rattle.analyser.proofs.Hits.{Hit}
 use Rattle.analyser.proofs.Asked.{WhoAsked, one-session, one-user, any-one, WhichAsked, one-item, any-item, Asks, which-item, which-anything, is-session, is-user, is-anyone, session-found, who-found-session, who-found-user, who-found-any, item-found-one, item-found-any, heldOf, aim-owner-session, aim-owner-user, aim-value, aim-permission, aim-items, aim-kind, aim-session, stands-open, held-byte, below, few-users, tested}

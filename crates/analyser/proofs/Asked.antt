@@ -34,10 +34,10 @@ use Rattle.search.specs.Claims.{Change}
 use Rattle.search.specs.declared.queue.Found.{Found}
 use Rattle.search.proofs.Theorems.{own-is-searched, searched-is-closure}
 use Rattle.analyser.specs.Answer.{sessionValues, itemValues}
-use Rattle.users.specs.Found.{userFound, UsersFound, anyHas}
-use Rattle.asked.specs.Asked.{itemFound, sessionFound, whoFound, aimOf}
+use Rattle.user_searches.specs.Found.{userFound, UsersFound, anyHas}
+use Rattle.goal.specs.Asked.{itemFound, sessionFound, whoFound, aimOf}
 use Rattle.analyser.proofs.Widths.{users-are, beginning-items, beginning-long, beginning-session, sessions-few, beginning-below, rules-session}
-use Rattle.users.proofs.UsersReach.{user-lane, lane-user, any-is}
+use Rattle.user_searches.proofs.UsersReach.{user-lane, lane-user, any-is}
 
 -- who is asked about
 pub data WhoAsked (p : Policy) (q : Question) : Type 0 where

@@ -14,20 +14,20 @@ use Rattle.policy.specs.declared.Rules.{Rules}
 use Rattle.allowed.specs.Allowed.{modelOf}
 use Rattle.search.specs.Searched.{depthAt}
 use Rattle.search.specs.declared.queue.Found.{Found}
-use Rattle.way.specs.Writing.{Writing, writingOf, Wrote}
+use Rattle.session_rows.specs.Writing.{Writing, writingOf, Wrote}
 use Rattle.leak.specs.Leak.{leakWritten}
-use Rattle.way.specs.declared.Pen.{Pen}
+use Rattle.session_rows.specs.declared.Pen.{Pen}
 use Rattle.leak.specs.declared.Aim.{Aim}
 use Rattle.replay.specs.declared.question.Question.{Question}
-use Rattle.users.specs.Found.{anyHas, Names, foundPairs}
-use Rattle.asked.specs.Asked.{hitValue, hitPlace, PenReady}
-use Rattle.asked.specs.Asked.{itemFound, sessionFound, whoFound, aimOf}
+use Rattle.user_searches.specs.Found.{anyHas, Names, foundPairs}
+use Rattle.goal.specs.Asked.{hitValue, hitPlace, PenReady}
+use Rattle.goal.specs.Asked.{itemFound, sessionFound, whoFound, aimOf}
 use Rattle.analyser.specs.Decide.{leakPlace, leakValue, LeakLeft, DecidedBy}
 use Rattle.analyser.specs.declared.Answer.{Answer}
 use Rattle.analyser.specs.declared.Verdict.{Verdict}
 use Rattle.analyser.specs.declared.Verdict.the-variants as Verdict
-use Rattle.asked.proofs.Questions.{hit-inside, hit-value-ext, hit-place-ext, who-ext}
-use Rattle.asked.proofs.Helpers.{item-ext, item-shallow}
+use Rattle.goal.proofs.Questions.{hit-inside, hit-value-ext, hit-place-ext, who-ext}
+use Rattle.goal.proofs.Helpers.{item-ext, item-shallow}
 
 -- where the first leak is
 module _ (r : Rules) (users : List Found) (q : Question) where

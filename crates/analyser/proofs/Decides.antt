@@ -30,15 +30,15 @@ use Rattle.replay.specs.declared.question.Question.{Question}
 use Rattle.replay.proofs.Theorems.{replay-is-the-run}
 use Rattle.search.specs.declared.queue.Found.{Found}
 use Rattle.analyser.specs.Answer.{sessionValues, itemValues, rowsNeeded, Told, refused, decided, told}
-use Rattle.users.specs.Found.{UsersFound, anyHas, allFound}
+use Rattle.user_searches.specs.Found.{UsersFound, anyHas, allFound}
 use Rattle.analyser.specs.Decide.{rowsFor, leakPlace, LeakLeft, DecidedBy}
-use Rattle.asked.specs.Asked.{itemFound}
+use Rattle.goal.specs.Asked.{itemFound}
 use Rattle.analyser.specs.Never.{Never, Means}
 use Rattle.analyser.specs.declared.Answer.{Answer}
 use Rattle.analyser.specs.declared.Verdict.{Verdict}
 use Rattle.analyser.specs.declared.Verdict.the-variants as Verdict
 use Rattle.analyser.proofs.Widths.{sessions-few, items-few, rowsFor-is}
-use Rattle.users.proofs.UsersReach.{pairs-agree}
+use Rattle.user_searches.proofs.UsersReach.{pairs-agree}
 use Rattle.analyser.proofs.ItemsReach.{values-agree}
 use Rattle.analyser.proofs.Asked.{Asks, asks-something, asked-who, asked-which, below, few-users}
 use Rattle.analyser.proofs.Aims.{item-search}

@@ -21,15 +21,15 @@ use Rattle.replay.specs.Question.{partsOf, whoOf, whichOf}
 use Rattle.replay.specs.Claims.{RunLeak}
 use Rattle.replay.specs.declared.question.Question.{Question}
 use Rattle.search.specs.declared.queue.Found.{Found}
-use Rattle.way.specs.Writing.{writingOf}
+use Rattle.session_rows.specs.Writing.{writingOf}
 use Rattle.leak.specs.Claims.{IsLeak}
 use Rattle.leak.proofs.Theorems.{leak-is-written}
 use Rattle.analyser.specs.Answer.{sessionValues, itemValues, rowsNeeded}
-use Rattle.users.specs.Found.{UsersFound, anyHas, allFound}
-use Rattle.asked.specs.Asked.{itemFound, sessionFound, aimOf}
+use Rattle.user_searches.specs.Found.{UsersFound, anyHas, allFound}
+use Rattle.goal.specs.Asked.{itemFound, sessionFound, aimOf}
 use Rattle.analyser.specs.Decide.{leakPlace, leakValue, LeakLeft}
 use Rattle.analyser.proofs.Widths.{needed-is, sessions-few, items-few, users-are}
-use Rattle.users.proofs.UsersReach.{all-agree}
+use Rattle.user_searches.proofs.UsersReach.{all-agree}
 use Rattle.analyser.proofs.Hits.{Hit, hit-here, hits-agree}
 use Rattle.analyser.proofs.Asked.{Asks, asked-which, aim-permission, below, few-users, tested, who-tests}
 use Rattle.analyser.proofs.Aims.{item-search, hit-aimed, pen-stands}

@@ -11,12 +11,12 @@ use Rattle.policy.specs.Rules.{policyOf, sessionsOf}
 use Rattle.policy.specs.declared.Rules.{Rules}
 use Rattle.allowed.specs.Allowed.{modelOf}
 use Rattle.search.specs.declared.queue.Found.{Found}
-use Rattle.way.specs.Writing.{writingOf}
+use Rattle.session_rows.specs.Writing.{writingOf}
 use Rattle.leak.specs.Leak.{leakWritten}
-use Rattle.way.specs.declared.Pen.{Pen}
+use Rattle.session_rows.specs.declared.Pen.{Pen}
 use Rattle.replay.specs.declared.question.Question.{Question}
-use Rattle.users.specs.Found.{anyHas, Names, foundPairs}
-use Rattle.asked.specs.Asked.{itemFound, sessionFound, whoFound, aimOf, hitValue, hitPlace, PenReady}
+use Rattle.user_searches.specs.Found.{anyHas, Names, foundPairs}
+use Rattle.goal.specs.Asked.{itemFound, sessionFound, whoFound, aimOf, hitValue, hitPlace, PenReady}
 use Rattle.analyser.specs.declared.Answer.{Answer}
 use Rattle.analyser.specs.declared.Verdict.{Verdict}
 use Rattle.analyser.specs.declared.Verdict.the-variants as Verdict

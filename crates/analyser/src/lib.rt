@@ -7,14 +7,14 @@ ghost use Rattle.policy.specs.Policy.{width};
 ghost use Rattle.policy.specs.Rules.{attrsOf};
 ghost use Rattle.allowed.specs.Basis.{BasisOf};
 ghost use Rattle.analyser.specs.Answer.{told};
-ghost use Rattle.users.specs.Found.{userFound};
+ghost use Rattle.user_searches.specs.Found.{userFound};
 ghost use Rattle.analyser.specs.Decide.{rowsFor, DecidedBy};
 ghost use Rattle.analyser.specs.Never.{Means};
 use allowed::Basis;
 use allowed::basis_of;
-use asked::about;
-use asked::aim;
-use asked::hit;
+use goal::about;
+use goal::aim;
+use goal::hit;
 use leak::write_leak;
 use policy::Rules;
 use policy::shape::class_width;
@@ -83,11 +83,11 @@ fn decide(rules: Rules, users: [Found; 16], q: Question, rows: &mut [u64], basis
     ensures { λ r. ⌜ DecidedBy rules users q (now (rows .entry)) (now (rows .exit)) r ⌝ }
 {
     let asked = about::asked_user(q);
-    let helpers = users::helpers(users);
+    let helpers = user_searches::helpers(users);
     let items = about::item_values(rules, helpers, q, basis);
     let own = about::session_values(rules, q, basis);
     let who = about::who_values(users, helpers, own, q);
-    let pairs = users::count_pairs(users);
+    let pairs = user_searches::count_pairs(users);
     let values = items.len;
     let place = hit::hit_place(rules, q.permission, who, items, basis);
     if 256 <= place {
@@ -99,7 +99,7 @@ fn decide(rules: Rules, users: [Found; 16], q: Question, rows: &mut [u64], basis
         };
     }
     let value = hit::hit_value(rules, q.permission, who, items, place, basis);
-    let by = users::name_users(users, asked);
+    let by = user_searches::name_users(users, asked);
     let pen = aim::first_pen(rules.sessions, asked);
     let end = write_leak(
         rows,
@@ -135,8 +135,8 @@ pub fn analyse(file: &[u8], question: &[u8], rows: &mut [u64]) -> Answer
         Reading::Accepted => {}
     }
     let basis = basis_of(rules);
-    let users = users::search_users(rules, basis);
-    if !users::all_brought(users, rules.sessions) {
+    let users = user_searches::search_users(rules, basis);
+    if !user_searches::all_brought(users, rules.sessions) {
         return refused(9);
     }
     if !asks(rules, question) {

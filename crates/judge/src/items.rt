@@ -1,4 +1,4 @@
-// Steps on items, judged: make, change, access.
+// Steps on items, judged: make, change, access. As for sessions, the count of users and the lists are taken out of the rules first.
 ghost use mathlib.Core.Path.{_≡_};
 ghost use Rattle.policy.specs.Rules.{policyOf};
 ghost use Rattle.cells.specs.Row.{stepOf};

@@ -1,4 +1,5 @@
-// Steps on sessions, judged: open, close, change. Only the cells of sessions are read; the items are whatever they are.
+// Steps on sessions, judged: open, close, change. Only the cells of sessions are read; the items are whatever they are. Each judge takes the count of
+// users and the lists out of the rules first: read later, they cost a second copy of the rules.
 ghost use mathlib.Core.Path.{_≡_};
 ghost use mathlib.Core.List.{List};
 ghost use Prim.Native.Nat.{ℕ};

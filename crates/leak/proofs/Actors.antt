@@ -20,8 +20,8 @@ use Rattle.search.specs.Claims.{Change}
 use Rattle.search.specs.declared.queue.Found.{Found}
 use Rattle.search.proofs.Paths.{seen-place}
 use Rattle.search.proofs.Theorems.{own-is-searched}
-use Rattle.way.specs.Writing.{Writing, wrote}
-use Rattle.way.specs.Way.{wayRows, helped, helpedBy}
+use Rattle.session_rows.specs.Writing.{Writing, wrote}
+use Rattle.session_rows.specs.Way.{wayRows, helped, helpedBy}
 use Rattle.leak.specs.Leak.{actorReady, actorOf}
 use Rattle.leak.specs.Standing.{WhoAimed}
 use Rattle.leak.specs.declared.Aim.{Aim}

@@ -23,8 +23,8 @@ use Rattle.search.specs.declared.queue.Found.{Found}
 use Rattle.search.proofs.Turns.{chosen}
 use Rattle.search.proofs.Paths.{seen-place}
 use Rattle.search.proofs.Theorems.{sessions-are-searched}
-use Rattle.way.specs.Writing.{Writing, wrote, stood}
-use Rattle.way.specs.Way.{wayRows, brought, helped, helpedBy}
+use Rattle.session_rows.specs.Writing.{Writing, wrote, stood}
+use Rattle.session_rows.specs.Way.{wayRows, brought, helped, helpedBy}
 use Rattle.leak.specs.Standing.{Stands, named, Ready}
 use Rattle.leak.proofs.Rows.{Done, done-append}
 use Rattle.leak.proofs.Ways.{search-within, way-short, way-length, way-new}

@@ -24,7 +24,7 @@ use Rattle.search.specs.Path.{wayAt, Chain}
 use Rattle.search.specs.Claims.{Begun, Modify}
 use Rattle.search.specs.declared.queue.Found.{Found}
 use Rattle.search.proofs.Paths.{chain}
-use Rattle.way.specs.Writing.{Writing, rowOf, wrote}
+use Rattle.session_rows.specs.Writing.{Writing, rowOf, wrote}
 use Rattle.leak.specs.Leak.{linked, itemTo, itemOf}
 use Rattle.leak.specs.Standing.{named}
 use Rattle.leak.proofs.Rows.{Done, done-one}

@@ -19,7 +19,7 @@ use Rattle.verdict.proofs.Decided.{accesses-is}
 use Rattle.search.specs.Searched.{valueAt, depthAt, Link, root, link, Good}
 use Rattle.search.specs.Claims.{Begun, Modify}
 use Rattle.search.specs.declared.queue.Found.{Found}
-use Rattle.way.specs.Writing.{Writing, rowOf, wrote}
+use Rattle.session_rows.specs.Writing.{Writing, rowOf, wrote}
 use Rattle.leak.specs.Leak.{itemTo, itemOf, actorReady, actorOf, leakWritten}
 use Rattle.leak.specs.Standing.{Stands, WhichAimed, Aimed}
 use Rattle.leak.specs.Claims.{IsLeak}

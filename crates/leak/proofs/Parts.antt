@@ -11,13 +11,13 @@ use lib.ListN.{getD}
 use Rattle.search.specs.Searched.{valueAt, viaAt, depthAt, placeAt}
 use Rattle.search.specs.Path.{wayAt}
 use Rattle.search.specs.declared.queue.Found.{Found}
-use Rattle.way.specs.Writing.{Writing, rowOf, wrote}
-use Rattle.way.specs.Way.{wayRows, helped, helpedBy}
+use Rattle.session_rows.specs.Writing.{Writing, rowOf, wrote}
+use Rattle.session_rows.specs.Way.{wayRows, helped, helpedBy}
 use Rattle.leak.specs.Leak.{linked, itemTo, itemOf, actorReady, actorOf, leakWritten}
 use Rattle.leak.specs.Turn.{itemTurn}
 use Rattle.leak.specs.declared.Aim.{Aim}
-use Rattle.way.proofs.Laws.{same-next, wrote-next}
-use Rattle.way.proofs.Brought.{pick-next, helped-next}
+use Rattle.session_rows.proofs.Laws.{same-next, wrote-next}
+use Rattle.session_rows.proofs.Brought.{pick-next, helped-next}
 
 module _ (room : ℕ) (users : List Found) (by : List ℕ) where
   -- links

@@ -12,7 +12,7 @@ use Rattle.runs.specs.Outcome.{CarriedAll, stop, then}
 use Rattle.runs.proofs.Bring.{row, append-carried}
 use Rattle.cells.specs.Row.{partsOf, stepOf}
 use Rattle.cells.proofs.Rows.{parts-again, step-is}
-use Rattle.way.specs.Writing.{rowOf}
+use Rattle.session_rows.specs.Writing.{rowOf}
 use Rattle.leak.specs.Standing.{rowStep}
 
 -- every part of a row fits its field

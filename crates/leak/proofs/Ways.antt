@@ -26,8 +26,8 @@ use Rattle.search.specs.Path.{wayAt, Chain}
 use Rattle.search.specs.Claims.{Change}
 use Rattle.search.specs.declared.queue.Found.{Found}
 use Rattle.search.proofs.Paths.{seen-place, chain}
-use Rattle.way.specs.Writing.{rowOf}
-use Rattle.way.specs.Way.{wayRows}
+use Rattle.session_rows.specs.Writing.{rowOf}
+use Rattle.session_rows.specs.Way.{wayRows}
 use Rattle.leak.proofs.Rows.{Done, done-none, done-one, done-append, tab-last}
 
 -- what holds only of numbers below n holds of at most n

@@ -10,7 +10,7 @@ use Rattle.runs.specs.Grant.{Who, Which, Fits}
 use Rattle.runs.specs.Outcome.{CarriedAll, Below}
 use Rattle.cells.specs.Row.{partsOf}
 use Rattle.search.specs.declared.queue.Found.{Found}
-use Rattle.way.specs.Writing.{Writing}
+use Rattle.session_rows.specs.Writing.{Writing}
 use Rattle.leak.specs.Leak.{leakWritten}
 use Rattle.leak.specs.Standing.{rowStep, Stands, Aimed}
 use Rattle.leak.specs.declared.Aim.{Aim}

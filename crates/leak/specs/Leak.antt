@@ -10,8 +10,8 @@ use Rattle.search.specs.Queue.{nothing}
 use Rattle.search.specs.Searched.{valueAt, viaAt, depthAt, placeAt}
 use Rattle.search.specs.Path.{wayAt}
 use Rattle.search.specs.declared.queue.Found.{Found}
-use Rattle.way.specs.Writing.{Writing, rowOf, wrote}
-use Rattle.way.specs.Way.{wayRows, helped, helpedBy}
+use Rattle.session_rows.specs.Writing.{Writing, rowOf, wrote}
+use Rattle.session_rows.specs.Way.{wayRows, helped, helpedBy}
 use Rattle.leak.specs.declared.Aim.{Aim}
 
 module _ (room : ℕ) (users : List Found) (by : List ℕ) where

@@ -21,7 +21,7 @@ use Rattle.search.specs.Searched.{Good, valueAt, viaAt}
 use Rattle.search.specs.Path.{wayAt}
 use Rattle.search.specs.Claims.{Modify, Begun}
 use Rattle.search.specs.declared.queue.Found.{Found}
-use Rattle.way.specs.Writing.{Writing}
+use Rattle.session_rows.specs.Writing.{Writing}
 use Rattle.leak.specs.declared.Aim.{Aim}
 
 -- the step of a row

@@ -7,7 +7,7 @@ use lib.Dec.{leb, eqb}
 use Rattle.search.specs.Searched.{valueAt, viaAt}
 use Rattle.search.specs.Path.{wayAt}
 use Rattle.search.specs.declared.queue.Found.{Found}
-use Rattle.way.specs.Writing.{Writing}
+use Rattle.session_rows.specs.Writing.{Writing}
 use Rattle.leak.specs.Leak.{linked}
 
 -- step j on the way to place pos: a start that is made, or that stands; or a link

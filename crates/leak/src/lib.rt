@@ -3,14 +3,14 @@ ghost use mathlib.Core.Path.{_≡_};
 ghost use mathlib.Core.List.{List, _∷_, []};
 ghost use Prim.Native.Nat.{ℕ, _+_, _-_, _≤_, _<_};
 ghost use lib.ListN.{length};
-ghost use Rattle.way.specs.Writing.{writingOf, Wrote};
+ghost use Rattle.session_rows.specs.Writing.{writingOf, Wrote};
 ghost use Rattle.search.specs.Searched.{depthAt};
 ghost use Rattle.search.specs.declared.queue.Found.{Found};
 ghost use Rattle.leak.specs.Turn.{itemTurn};
 ghost use Rattle.leak.specs.Leak.{linked, itemTo, itemOf, actorReady, actorOf, leakWritten};
 use search::queue::Found;
-use way::Pen;
-use way::end;
+use session_rows::Pen;
+use session_rows::end;
 
 // What a leak aims at: who is asked about (0 a starting session, with its owner; 1 a user; 2 anyone), the value that the actor is to have, how many
 // starting items there are, and the permission.
@@ -38,7 +38,7 @@ fn link(
     ensures { λ r. ⌜ writingOf r (now (rows .exit)) ≡ linked (length (now (rows .entry))) users by kind v t o (writingOf pen (now (rows .entry))) ⌝ }
     ensures { λ r. ⌜ Wrote pen (now (rows .entry)) r (now (rows .exit)) ⌝ }
 {
-    let h = way::help(rows, pen, users, by, v);
+    let h = session_rows::help(rows, pen, users, by, v);
     let actor = end::before(end::number_at(h, v) as u64);
     end::put(rows, h, end::row_of(kind, actor, t, o as u64))
 }
@@ -58,8 +58,8 @@ fn item_step(
     ensures { λ r. ⌜ writingOf r (now (rows .exit)) ≡ itemTurn (length (now (rows .entry))) users by q pos t j (writingOf pen (now (rows .entry))) ⌝ }
     ensures { λ r. ⌜ Wrote pen (now (rows .entry)) r (now (rows .exit)) ⌝ }
 {
-    let via = way::via_at(q, way::way_at(q, pos, j)) as usize;
-    let o = way::way_value(q, pos, j);
+    let via = session_rows::via_at(q, session_rows::way_at(q, pos, j)) as usize;
+    let o = session_rows::way_value(q, pos, j);
     if j != 0 {
         return link(rows, pen, users, by, 5, via, t, o);
     }
@@ -83,7 +83,7 @@ fn bring_item(
     ensures { λ r. ⌜ writingOf r (now (rows .exit)) ≡ itemTo (length (now (rows .entry))) users by q pos t (depthAt q pos + 1) (writingOf pen (now (rows .entry))) ⌝ }
     ensures { λ r. ⌜ Wrote pen (now (rows .entry)) r (now (rows .exit)) ⌝ }
 {
-    let steps = way::depth_at(q, pos) as usize + 1;
+    let steps = session_rows::depth_at(q, pos) as usize + 1;
     let mut p = pen;
     for j in 0..steps {
         let t1 = item_step(rows, p, users, by, q, pos, t, j);
@@ -96,7 +96,7 @@ fn bring_item(
 fn item_of(q: Found, pos: usize, items: u64) -> u64
     ensures { λ r. ⌜ ((room : ℕ) (users : List Found) (by : List ℕ) → r ≡ itemOf room users by q pos items) ⌝ }
 {
-    let via = way::via_at(q, way::way_at(q, pos, 0)) as u64;
+    let via = session_rows::via_at(q, session_rows::way_at(q, pos, 0)) as u64;
     if 256 <= via { via - 256 } else { items }
 }
 
@@ -115,20 +115,20 @@ fn ready_actor(
 {
     let v = aim.value as usize;
     if aim.whokind == 0 {
-        return way::write_way(
+        return session_rows::write_way(
             rows,
             pen,
             own,
-            way::place_of(own, v),
+            session_rows::place_of(own, v),
             1,
             aim.owner,
             aim.session,
         );
     }
     if aim.whokind == 1 {
-        return way::help_by(rows, pen, users, by, aim.owner, v);
+        return session_rows::help_by(rows, pen, users, by, aim.owner, v);
     }
-    way::help(rows, pen, users, by, v)
+    session_rows::help(rows, pen, users, by, v)
 }
 
 // The number of the session that acts.

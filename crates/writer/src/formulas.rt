@@ -12,7 +12,7 @@ use format::put_field;
 use policy::Classes;
 use policy::nodes::node_ok;
 use policy::shape::byte_at;
-use preface::put_range;
+use writer_head::put_range;
 
 // Element k, or 0 past the end.
 fn node_at(nodes: &[u32], k: usize) -> u32

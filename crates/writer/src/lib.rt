@@ -14,11 +14,11 @@ mod values;
 use format::Cursor;
 use formulas::put_formulas;
 use policy::Rules;
-use preface::Counts;
-use preface::lists::put_classes;
-use preface::put_counts;
 use values::put_sessions;
 use values::put_values;
+use writer_head::Counts;
+use writer_head::lists::put_classes;
+use writer_head::put_counts;
 
 // The whole file up to its filling bits.
 pub fn put_policy(out: &mut [u8], rules: Rules) -> Cursor

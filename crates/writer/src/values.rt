@@ -17,7 +17,7 @@ use policy::shape::bits_for;
 use policy::shape::byte_at;
 use policy::shape::class_width;
 use policy::shape::code_ok;
-use preface::put_range;
+use writer_head::put_range;
 
 // A holder's value: its attributes' values one after another. What is left above the first attribute's codes is judged with it, and with
 // no attribute only 0 is a value.

@@ -9,7 +9,7 @@ use Rattle.steps.proofs.Files.{file-sound}
 use Rattle.replay.specs.declared.question.Question.{Question}
 use Rattle.analyser.specs.Decide.{DecidedBy}
 use Rattle.analyser.proofs.Decides.{decided-is-told, refused-file-is-told, refused-sessions-is-told, refused-question-is-told, refused-room-is-told, rowsFor-needed}
-use Rattle.users.proofs.Laws.{users-few}
+use Rattle.user_searches.proofs.Laws.{users-few}
 use Rattle.analyser.proofs.Refusals.{gives-number}
 use borrow.Author.Needs.{needs}
 use Rattle.analyser.proofs.analyse.Statement.{statement}

@@ -1,7 +1,7 @@
 -- `leak::actor_of` meets its contract: the session that is asked about, or the one that stands open with the value.
 use mathlib.Core.Path.{ap, _∙_}
 use Prim.Native.Nat.{ℕ, _-_}
-use Rattle.way.specs.Writing.{writingOf}
+use Rattle.session_rows.specs.Writing.{writingOf}
 use Rattle.leak.proofs.Parts.{actor-session, actor-other}
 use borrow.Author.Needs.{needs}
 use Rattle.leak.proofs.actor_of.Statement.{statement}

@@ -4,9 +4,9 @@ use Prim.Native.Nat.{ℕ, _+_, _-_, _≤_}
 use native.Mathlib.Omega.{arith}
 use lib.ListN.{length}
 use Rattle.search.specs.Searched.{depthAt}
-use Rattle.way.specs.Writing.{writingOf, Wrote}
+use Rattle.session_rows.specs.Writing.{writingOf, Wrote}
 use Rattle.leak.specs.Leak.{itemTo}
-use Rattle.way.proofs.Laws.{kept, kept-on}
+use Rattle.session_rows.proofs.Laws.{kept, kept-on}
 use Rattle.leak.proofs.Parts.{item-none, item-goes, item-few}
 use borrow.Author.Needs.{needs}
 use Rattle.leak.proofs.bring_item.Statement.{statement}

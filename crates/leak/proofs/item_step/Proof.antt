@@ -3,8 +3,8 @@ use mathlib.Core.Path.{ap, _∙_}
 use native.Mathlib.Omega.{arith}
 use lib.ListN.{length}
 use Rattle.search.specs.Searched.{viaAt}
-use Rattle.way.specs.Writing.{writingOf}
-use Rattle.way.proofs.Laws.{kept}
+use Rattle.session_rows.specs.Writing.{writingOf}
+use Rattle.session_rows.proofs.Laws.{kept}
 use Rattle.leak.proofs.Parts.{turn-link, turn-make, turn-stands}
 use borrow.Author.Needs.{needs}
 use Rattle.leak.proofs.item_step.Statement.{statement}

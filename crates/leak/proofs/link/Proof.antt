@@ -2,8 +2,8 @@
 use mathlib.Core.Path.{ap, _∙_}
 use Prim.Native.Nat.{ℕ, _-_}
 use lib.ListN.{length}
-use Rattle.way.specs.Writing.{writingOf}
-use Rattle.way.proofs.Laws.{kept-on}
+use Rattle.session_rows.specs.Writing.{writingOf}
+use Rattle.session_rows.proofs.Laws.{kept-on}
 use Rattle.leak.proofs.Parts.{link-is}
 use borrow.Author.Needs.{needs}
 use Rattle.leak.proofs.link.Statement.{statement}

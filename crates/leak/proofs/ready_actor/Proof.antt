@@ -1,6 +1,6 @@
 -- `leak::ready_actor` meets its contract, by who is asked about.
 use lib.ListN.{length}
-use Rattle.way.specs.Writing.{writingOf}
+use Rattle.session_rows.specs.Writing.{writingOf}
 use Rattle.leak.proofs.Parts.{ready-session, ready-user, ready-anyone}
 use borrow.Author.Needs.{needs}
 use Rattle.leak.proofs.ready_actor.Statement.{statement}

@@ -4,9 +4,9 @@ use Prim.Native.Nat.{ℕ, _+_}
 use native.Mathlib.Omega.{arith}
 use lib.ListN.{length}
 use Rattle.search.specs.Searched.{depthAt}
-use Rattle.way.specs.Writing.{writingOf}
+use Rattle.session_rows.specs.Writing.{writingOf}
 use Rattle.leak.specs.Leak.{actorReady}
-use Rattle.way.proofs.Laws.{kept-on}
+use Rattle.session_rows.proofs.Laws.{kept-on}
 use Rattle.leak.proofs.Parts.{item-few, leak-is}
 use borrow.Author.Needs.{needs}
 use Rattle.leak.proofs.write_leak.Statement.{statement}

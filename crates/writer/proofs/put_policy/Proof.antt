@@ -3,7 +3,7 @@ use native.Mathlib.Omega.{arith}
 use Rattle.format.proofs.Store.{stores-pair, stores-via}
 use Rattle.policy.specs.File.{listsFormat, policyFormat}
 use Rattle.policy.specs.Rules.{listsOf, policyOf}
-use Rattle.preface.specs.Parts.{headOf, headFor}
+use Rattle.writer_head.specs.Parts.{headOf, headFor}
 use Rattle.writer.proofs.put_policy.Statement.{statement}
 use Rattle.writer.proofs.put_policy.Tie as tie
 

@@ -1,0 +1,121 @@
+-- Laws of what a question asks about. In order: the first hit; the searches that a question asks for; what a leak aims at.
+use mathlib.Core.Path.{_≡_, refl, ap, _∙_}
+use mathlib.Core.Bool.{Bool, true, false, _&&_, cond}
+use mathlib.Core.List.{List}
+use Prim.Native.Nat.{ℕ, zero, suc, _+_, _%_, _≤_, _<_}
+use native.Mathlib.Omega.{arith}
+use borrow.Author.Tests.{lt-ltb, le-ltb, ltb-true, eq-eqb, ne-eqb}
+use lib.Dec.{ltb, eqb}
+use lib.ListN.{getD}
+use Rattle.lanes.specs.Lanes.{laneOf, Lanes, firstFrom, lowestOf}
+use Rattle.lanes.proofs.Laws.{lanes-as, lowest-lanes, first-is, first-here}
+use Rattle.policy.specs.Rules.{policyOf, valuesOf}
+use Rattle.policy.specs.declared.Rules.{Rules}
+use Rattle.runs.specs.Model.{Model}
+use Rattle.runs.specs.Edge.{accesses}
+use Rattle.allowed.specs.Allowed.{modelOf}
+use Rattle.search.specs.Queue.{nothing}
+use Rattle.search.specs.Sessions.{ownFound}
+use Rattle.search.specs.Items.{oneFound, anyFound}
+use Rattle.search.specs.declared.queue.Found.{Found}
+use Rattle.leak.specs.declared.Aim.{Aim}
+use Rattle.replay.specs.declared.question.Question.{Question}
+use Rattle.user_searches.specs.Found.{userFound}
+use Rattle.goal.specs.Asked.{hitValue, hitPlace}
+use Rattle.goal.specs.Asked.{itemFound, sessionFound, whoFound, aimOf}
+
+-- the first hit
+
+first-ext : (f g : ℕ → Bool) (k n : ℕ) → ((v : ℕ) → v < k + n → f v ≡ g v) → firstFrom f k n ≡ firstFrom g k n
+unfolding firstFrom
+first-ext f g k zero h = refl
+first-ext f g k (suc n) h = rw (h k (omega arith), first-ext f g (suc k) n (λ v l. h v (omega arith))) refl
+
+module _ (m : Model) (permission : ℕ) (q : Found) where
+  pub hit-lowest : (i : ℕ) (who own both row : List ℕ) → Lanes (m .sessionValue) own → Lanes (λ (v : ℕ). laneOf who v && laneOf own v) both
+      → Lanes (λ (v : ℕ). laneOf both v && accesses m permission v (getD (q .order) i 0)) row → lowestOf row ≡ hitValue m permission (laneOf who) q i
+  unfolding hitValue
+  hit-lowest i who own both row S B R =
+      lowest-lanes (λ v. laneOf who v && (m .sessionValue v && accesses m permission v (getD (q .order) i 0))) row
+      (lanes-as _ _ row R
+      (λ v h.
+      ap (λ (b : Bool). b && accesses m permission v (getD (q .order) i 0)) (B .each v h ∙ ap (λ (b : Bool). laneOf who v && b) (S .each v h))
+      ∙ apart (laneOf who v) (m .sessionValue v) (accesses m permission v (getD (q .order) i 0))))
+    where
+      apart : (w s a : Bool) → (w && s) && a ≡ w && (s && a)
+      apart true s a = refl
+      apart false s a = refl
+
+  module _ (who : ℕ → Bool) where
+    -- there is a hit at place i
+    abbrev pub hit : ℕ → Bool
+    hit i = ltb i (q .len) && ltb (hitValue m permission who q i) 256
+
+    pub hit-is : (r : ℕ) → r ≤ 256 → (r < 256 → hit r ≡ true) → ((k : ℕ) → k < r → hit k ≡ false) → r ≡ hitPlace m permission who q
+    unfolding hitPlace
+    hit-is r b here before = first-is hit 0 256 r (omega arith) b here (λ v p l. before v l)
+
+    pub hit-inside : hitPlace m permission who q < 256 → hitPlace m permission who q < q .len
+    unfolding hitPlace
+    hit-inside h = ltb-true _ _ (left (ltb (firstFrom hit 0 256) (q .len)) _ (first-here hit 0 256 h))
+      where
+        left : (a b : Bool) → a && b ≡ true → a ≡ true
+        left true b e = refl
+        left false b e = e
+
+  -- who is asked about counts below 256 only
+  module _ (f g : ℕ → Bool) (same : (v : ℕ) → v < 256 → f v ≡ g v) where
+    pub hit-value-ext : (i : ℕ) → hitValue m permission f q i ≡ hitValue m permission g q i
+    unfolding hitValue
+    hit-value-ext i = first-ext _ _ 0 256 (λ v h. ap (λ (b : Bool). b && (m .sessionValue v && accesses m permission v (getD (q .order) i 0))) (same v h))
+
+    pub hit-place-ext : hitPlace m permission f q ≡ hitPlace m permission g q
+    unfolding hitPlace
+    hit-place-ext = first-ext _ _ 0 256 (λ i h. ap (λ (n : ℕ). ltb i (q .len) && ltb n 256) (hit-value-ext i))
+
+-- the searches that a question asks for
+
+module _ (r : Rules) (q : Question) where
+  module _ (helper : ℕ → Bool) where
+    pub item-one : q .itemkind ≡ 0 → oneFound (modelOf (policyOf r)) helper (q .item) (getD (r .items .values) (q .item) 0) ≡ itemFound r helper q
+    unfolding itemFound
+    item-one e = simp (eq-eqb (q .itemkind) 0 e)
+
+    pub item-any : (q .itemkind ≡ 0 → ⊥) → anyFound (modelOf (policyOf r)) helper (valuesOf (r .items)) ≡ itemFound r helper q
+    unfolding itemFound
+    item-any d = simp (ne-eqb (q .itemkind) 0 d)
+
+  pub session-own : q .whokind ≡ 0 → ownFound (modelOf (policyOf r)) (getD (r .sessions .users) (q .who) 0) (getD (r .sessions .values) (q .who) 0) ≡ sessionFound r q
+  unfolding sessionFound
+  session-own e = simp (eq-eqb (q .whokind) 0 e)
+
+  pub session-none : (q .whokind ≡ 0 → ⊥) → nothing ≡ sessionFound r q
+  unfolding sessionFound
+  session-none d = simp (ne-eqb (q .whokind) 0 d)
+
+module _ (users : List Found) (helper : ℕ → Bool) (own : Found) (q : Question) (v : ℕ) where
+  pub who-session : q .whokind ≡ 0 → laneOf (own .seen) v ≡ whoFound users helper own q v
+  unfolding whoFound
+  who-session e = simp (eq-eqb (q .whokind) 0 e)
+
+  pub who-user : (q .whokind ≡ 0 → ⊥) → q .whokind ≡ 1 → q .who < 16 → laneOf (userFound users (q .who) .seen) v ≡ whoFound users helper own q v
+  unfolding whoFound
+  who-user d e h = simp (ne-eqb (q .whokind) 0 d, eq-eqb (q .whokind) 1 e, lt-ltb (q .who) 16 h)
+
+  pub who-no-user : (q .whokind ≡ 0 → ⊥) → q .whokind ≡ 1 → 16 ≤ q .who → false ≡ whoFound users helper own q v
+  unfolding whoFound
+  who-no-user d e h = simp (ne-eqb (q .whokind) 0 d, eq-eqb (q .whokind) 1 e, le-ltb (q .who) 16 h)
+
+  pub who-any : (q .whokind ≡ 0 → ⊥) → (q .whokind ≡ 1 → ⊥) → helper v ≡ whoFound users helper own q v
+  unfolding whoFound
+  who-any d e = simp (ne-eqb (q .whokind) 0 d, ne-eqb (q .whokind) 1 e)
+
+-- who is asked about can have what a helper can, where it is not a session or a user
+pub who-ext : (users : List Found) (f g : ℕ → Bool) (own : Found) (q : Question) (v : ℕ) → f v ≡ g v → whoFound users f own q v ≡ whoFound users g own q v
+unfolding whoFound
+who-ext users f g own q v e = rw e refl
+
+pub aim-is : (r : Rules) (q : Question) (value owner : ℕ) → owner ≡ cond (eqb (q .whokind) 0) (getD (r .sessions .users) (q .who) 0) (q .who)
+    → _≡_ {A = Aim} record { whokind = q .whokind; session = q .who; owner = owner; value = value % 256; items = r .items .count; permission = q .permission } (aimOf r q value)
+unfolding aimOf
+aim-is r q value owner e = rw e refl

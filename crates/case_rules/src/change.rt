@@ -46,27 +46,33 @@ fn classes_changed(classes: Classes, which: usize, what: usize, k: usize, v: u8)
     }
 }
 
-// The rules with a count or a value of holders changed.
-fn holders_changed(rules: Rules, part: usize, k: usize, v: u8) -> Rules {
+// The rules with a count changed.
+fn counts_changed(rules: Rules, part: usize, v: u8) -> Rules {
     let mut r = rules;
-    let mut users = r.users;
-    let mut sessions = r.sessions;
-    let mut items = r.items;
     match part {
         3 => {
-            users.count = v;
+            r.users.count = v;
         }
         4 => {
-            sessions.count = v;
+            r.sessions.count = v;
         }
         5 => {
-            items.count = v;
+            r.items.count = v;
         }
         6 => {
             r.permissions = v;
         }
         _ => {}
     }
+    r
+}
+
+// The rules with a count or a value of holders changed.
+fn holders_changed(rules: Rules, part: usize, k: usize, v: u8) -> Rules {
+    let mut r = counts_changed(rules, part, v);
+    let mut users = r.users;
+    let mut sessions = r.sessions;
+    let mut items = r.items;
     if k < 32 {
         match part {
             13 => {

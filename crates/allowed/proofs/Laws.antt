@@ -1,24 +1,20 @@
 -- Laws of what a formula of rules says, and of a value put in. In order: the value of a user; a formula that is there, and one that is not;
 -- what is swept.
-use mathlib.Core.Path.{_≡_, refl, sym, ap, ap₂, _∙_}
-use mathlib.Core.Bool.{Bool, true, false, _&&_}
+use mathlib.Core.Path.{_≡_, sym, ap, _∙_}
+use mathlib.Core.Bool.{Bool, false, _&&_}
 use mathlib.Core.List.{List, []}
 use Prim.Native.Nat.{ℕ, _+_, _≤_, _<_}
 use native.Mathlib.Omega.{arith}
 use lib.ListN.{getD, List·getD-eq-default}
 use Rattle.bits.proofs.Packed.{getD-tab}
-use Rattle.policy.specs.Nodes.{ofHolder}
-use Rattle.policy.specs.Rules.{attrsOf, valuesOf, nodesOf, formulasOf, listsOf, policyOf}
-use Rattle.policy.specs.Policy.{Attr}
-use Rattle.policy.specs.declared.Class.{Class}
+use Rattle.policy.specs.Rules.{valuesOf, nodesOf, formulasOf, listsOf, policyOf}
 use Rattle.policy.specs.declared.Values.{Values}
 use Rattle.policy.specs.declared.Rules.{Rules}
 use Rattle.policy.proofs.Laws.{values-length, formulas-length}
 use Rattle.formulas.specs.Meaning.{said, holds}
 use Rattle.formulas.specs.declared.Holders.{Holders}
-use Rattle.lanes.specs.Lanes.{laneOf, Lanes}
+use Rattle.lanes.specs.Lanes.{Lanes}
 use Rattle.lanes.proofs.Laws.{lanes-as}
-use Rattle.lists.specs.Lists.{listed}
 use Rattle.planes.specs.Put.{withValue}
 use Rattle.allowed.specs.Allowed.{says}
 use Rattle.allowed.specs.Sweep.{swept}

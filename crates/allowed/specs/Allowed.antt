@@ -2,7 +2,7 @@
 -- Total for all rules: a formula that is not there is false, and a user that is not there has value 0.
 -- Assumes nothing.
 use mathlib.Core.Bool.{Bool}
-use mathlib.Core.List.{List, []}
+use mathlib.Core.List.{[]}
 use Prim.Native.Nat.{ℕ, _+_}
 use lib.ListN.{length, getD}
 use Rattle.policy.specs.Policy.{Policy}

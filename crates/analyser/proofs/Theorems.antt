@@ -1,16 +1,15 @@
 -- The claims of specs/Claims. In order: what a verdict says of its tests; safe; leak; the rows that are lent.
-use mathlib.Core.Path.{_≡_, refl, sym, ap, _∙_, subst}
+use mathlib.Core.Path.{_≡_, refl, sym, ap, _∙_}
 use mathlib.Core.Bool.{Bool, true, false, not, cond}
 use mathlib.Core.List.{List}
-use Prim.Native.Nat.{ℕ, _≤_}
+use Prim.Native.Nat.{ℕ}
 use native.Mathlib.Omega.{arith}
 use borrow.Author.Tests.{le-ltb}
 use lib.Dec.{ltb}
 use Rattle.policy.specs.Policy.{Policy}
-use Rattle.rules.specs.Answers.{Answer as Read, rules, reading}
+use Rattle.rules.specs.Answers.{Answer as Read, rules}
 use Rattle.lists.specs.Sound.{Sound}
 use Rattle.runs.specs.Grant.{Leak}
-use Rattle.runs.specs.Reach.{Brought}
 use Rattle.verdict.specs.Verdict.{allBrought, leaks}
 use Rattle.verdict.proofs.Theorems.{verdict-is-computed, brought-is-computed}
 use Rattle.allowed.specs.Allowed.{modelOf}
@@ -22,7 +21,7 @@ use Rattle.analyser.specs.Claims.{SafeIsNever, LeakIsReal, AnswerByFileA
 use Rattle.analyser.specs.declared.Verdict.{Verdict}
 use Rattle.analyser.specs.declared.Verdict.the-variants as Verdict
 use Rattle.analyser.proofs.Widths.{beginning-below}
-use Rattle.analyser.proofs.Asked.{Asks, asks-something, asked-who, asked-which}
+use Rattle.analyser.proofs.Asked.{asks-something, asked-who, asked-which}
 
 -- a verdict that is no number, by four tests
 chosen : Bool → Bool → Bool → Told → Told

@@ -1,6 +1,6 @@
 -- Laws of a file's rules, for the theory of answers. In order: the rows that widths need; how many values there are and what rows they need; what
 -- stands at the start; rules in memory.
-use mathlib.Core.Path.{_≡_, refl, sym, ap, _∙_}
+use mathlib.Core.Path.{_≡_, refl, ap, _∙_}
 use mathlib.Core.Bool.{Bool, cond}
 use mathlib.Core.List.{List, [], _∷_, map}
 use Prim.Native.Nat.{ℕ, zero, suc, _+_, _*_, _^_, _≤_, _<_}

@@ -1,6 +1,6 @@
 -- Refusal, verdict and counts of a file and a question [01:The question; When a number is given instead, "the analyser adds 9, 10, 11"].
 -- Assumes nothing.
-use mathlib.Core.Bool.{Bool, true, false, not, cond}
+use mathlib.Core.Bool.{not, cond}
 use mathlib.Core.List.{List}
 use Prim.Native.Nat.{ℕ, _+_, _*_, _^_}
 use lib.Dec.{ltb}

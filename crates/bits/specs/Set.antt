@@ -1,7 +1,7 @@
 -- Sets by their members [01:The rule file, "value 0 is the field's first bit"]: member 0 is the first, most significant, bit of the field,
 -- so sets of different sizes meet at member 0. A set is the low bits of a packed value: as many as its size, and at most 8.
 -- Assumes nothing.
-use mathlib.Core.Bool.{Bool, true, false, not, _&&_, _||_}
+use mathlib.Core.Bool.{Bool, true, not, _&&_, _||_}
 use Prim.Native.Nat.{ℕ, zero, suc, _-_, _/_, _%_, _^_, min}
 use lib.Dec.{ltb, eqb}
 

@@ -1,5 +1,5 @@
 -- Which numbers judging a value can give: once for each way of building a format. In order: a field, a check, a pair, another name, zeros, rows.
-use mathlib.Core.Path.{_≡_, sym, subst, _∙_}
+use mathlib.Core.Path.{_≡_, subst}
 use mathlib.Core.Bool.{Bool}
 use mathlib.Core.Logic.{⊎-elim}
 use mathlib.Core.List.{List, [], _∷_, _++_}

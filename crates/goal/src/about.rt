@@ -128,7 +128,9 @@ pub fn aim_of(rules: Rules, q: Question, value: usize) -> Aim
 }
 
 // The user that is asked about, or 255 where none is.
-pub fn asked_user(q: Question) -> u8 {
+pub fn asked_user(q: Question) -> u8
+    ensures { λ r. ⌜ r ≡ cond (eqb (q .whokind) 1) (q .who) 255 ⌝ }
+{
     if q.whokind == Question::USER {
         q.who
     } else {

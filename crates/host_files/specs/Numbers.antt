@@ -1,12 +1,11 @@
 -- What the exported calls return: 0 for accepted, or paper 01's number.
 -- Assumes nothing.
 use mathlib.Core.Bool.{cond}
-use mathlib.Core.List.{List}
 use Prim.Native.Nat.{ℕ}
 use lib.Dec.{leb}
 use lib.ListN.{length}
 use Rattle.format.specs.File.{Bytes, refused, bytes}
-use Rattle.rules.specs.Answers.{Answer, refusal, rules, writing, filled}
+use Rattle.rules.specs.Answers.{Answer, refusal, rules, writing}
 
 -- the number of an answer to reading
 unfoldable pub numberOf : Answer → ℕ

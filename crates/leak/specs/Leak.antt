@@ -6,7 +6,6 @@ use mathlib.Core.List.{List, [], _∷_}
 use Prim.Native.Nat.{ℕ, zero, suc, _+_, _-_}
 use lib.Dec.{leb, eqb}
 use lib.ListN.{getD}
-use Rattle.search.specs.Queue.{nothing}
 use Rattle.search.specs.Searched.{valueAt, viaAt, depthAt, placeAt}
 use Rattle.search.specs.Path.{wayAt}
 use Rattle.search.specs.declared.queue.Found.{Found}

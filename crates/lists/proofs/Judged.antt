@@ -1,20 +1,20 @@
 -- What is judged to be no fault is sound. In order: rows of a kind; the head; the classes; a starting session; the whole.
-use mathlib.Core.Path.{_≡_, refl, sym, ap, _∙_, subst}
+use mathlib.Core.Path.{_≡_}
 use mathlib.Core.Bool.{Bool, true}
 use mathlib.Core.List.{List, [], _∷_, _++_}
-use mathlib.Core.Option.{Option, none, some}
+use mathlib.Core.Option.{none}
 use Prim.Native.Nat.{ℕ, zero, suc, _+_, _≤_, _<_}
 use native.Mathlib.Omega.{arith}
 use borrow.Author.Tests.{leb-true, ltb-true}
 use lib.Dec.{leb, ltb}
 use lib.ListN.{length, getD}
-use Rattle.format.specs.Format.{Format, within, field, check, rowsJudge, rows, pair, via, zeros}
+use Rattle.format.specs.Format.{Format, within, field, check, rowsJudge, rows, via, zeros}
 use Rattle.format.proofs.Fault.{first-none, unless-none}
 use Rattle.format.proofs.Law.{judged-field, judged-pair, judged-rows}
 use Rattle.bits.proofs.Set.{both-true}
-use Rattle.policy.specs.Policy.{Head, Attr, Lists, Session, Policy, width}
-use Rattle.policy.specs.File.{count, headFormat, attrFormat, classFormat, listsFormat, valueFormat, sessionFormat, formulaFormat, policyFormat}
-use Rattle.lists.specs.Sound.{startingSession, Sound, JudgedIsSound}
+use Rattle.policy.specs.Policy.{Head, Attr, Lists, Session, width}
+use Rattle.policy.specs.File.{count, headFormat, classFormat, listsFormat, valueFormat, sessionFormat, policyFormat}
+use Rattle.lists.specs.Sound.{startingSession, JudgedIsSound}
 use Rattle.lists.proofs.Laws.{judged-listed}
 
 module _ {A : Type 0} (g : Format A) where

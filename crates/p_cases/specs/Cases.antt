@@ -3,7 +3,7 @@
 -- Assumes nothing.
 use mathlib.Core.Path.{_≡_}
 use mathlib.Core.Bool.{Bool, true, not, _&&_}
-use mathlib.Core.List.{List, [], _∷_, map}
+use mathlib.Core.List.{List, [], _∷_}
 use Prim.Native.Nat.{ℕ}
 use lib.Dec.{eqb}
 use lib.ListN.{replicate}
@@ -17,7 +17,7 @@ use Rattle.live.specs.Lent.{outcomeNumber}
 use Rattle.steps.specs.Step.{stepIn}
 use Rattle.starting.specs.Start.{started}
 use Rattle.replay.specs.Replay.{replayed}
-use Rattle.analyser.specs.Answer.{Told, told, rowsNeeded}
+use Rattle.analyser.specs.Answer.{Told, told}
 use Rattle.analyser.specs.Never.{Never}
 use Rattle.analyser.specs.declared.Verdict.{Verdict}
 use Rattle.analyser.specs.declared.Verdict.the-variants as Verdict

@@ -19,7 +19,7 @@ use Rattle.bits.proofs.Laws.{pow-more}
 use Rattle.bits.proofs.Packed.{tab-ext, tab-more, tab-zero, length-tab, getD-tab}
 use Rattle.format.specs.Format.{within, via}
 use Rattle.format.proofs.Law.{judged-field, judged-pair}
-use Rattle.policy.specs.Policy.{Attr, Session, fewestFrom, fewestBits, bitsFor, codes, width}
+use Rattle.policy.specs.Policy.{Attr, fewestFrom, fewestBits, bitsFor, codes, width}
 use Rattle.policy.specs.File.{valueFormat}
 use Rattle.policy.specs.Rules.{attrAt, attrsOf, valuesOf, sessionsOf, nodesOf, formulasOf}
 use Rattle.policy.specs.declared.Class.{Class}

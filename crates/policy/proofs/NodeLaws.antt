@@ -1,6 +1,6 @@
 -- Laws of nodes: what each definition comes to, case by case. In order: two tests, holders that a formula may use, operands that name
 -- an attribute, a node by its operator.
-use mathlib.Core.Path.{_≡_, refl, sym, ap, _∙_}
+use mathlib.Core.Path.{_≡_, refl, _∙_}
 use mathlib.Core.Bool.{Bool, true, false, _&&_, _||_, cond}
 use Prim.Native.Nat.{ℕ, _≤_, _<_}
 use native.Mathlib.Decide.{decLe}
@@ -8,7 +8,7 @@ use native.Mathlib.Omega.{arith}
 use borrow.Author.Tests.{le-leb, lt-leb, lt-ltb, le-ltb, eq-eqb, ne-eqb}
 use lib.Dec.{ltb, leb, eqb}
 use lib.ListN.{length, getD}
-use Rattle.policy.specs.Policy.{Attr, Lists}
+use Rattle.policy.specs.Policy.{Lists}
 use Rattle.policy.specs.Nodes.{opOf, firstOf, secondOf, holderOf, placeOf, mayUse, ofHolder, names, atomic, nodeOk}
 use Rattle.policy.specs.Rules.{attrAt, attrsOf}
 use Rattle.policy.specs.declared.Class.{Class}

@@ -2,7 +2,7 @@
 use mathlib.Core.Path.{_≡_, refl}
 use mathlib.Core.Logic.{_⊎_, inl, inr, ⊎-elim}
 use mathlib.Core.List.{List, [], _∷_}
-use Prim.Native.Nat.{ℕ, _+_, _/_, _%_, _^_, _≤_, _<_}
+use Prim.Native.Nat.{ℕ, _+_, _%_, _^_, _≤_, _<_}
 use native.Mathlib.Omega.{arith}
 use lib.ListN.{length}
 use Rattle.format.proofs.Gives.{Gives, gives-field, gives-check, gives-pair, gives-via, gives-zeros, gives-rows}
@@ -10,7 +10,6 @@ use Rattle.policy.specs.Policy.{Attr, Head, Lists, Session, width}
 use Rattle.policy.specs.File.{count, headFormat, attrFormat, classFormat, listsFormat, valueFormat, sessionFormat, formulaFormat, policyFormat}
 use Rattle.policy.specs.Rules.{attrsOf, listsOf, policyOf}
 use Rattle.policy.specs.declared.Class.{Class}
-use Rattle.policy.specs.declared.Classes.{Classes}
 use Rattle.policy.specs.declared.Rules.{Rules}
 use Rattle.policy.proofs.Laws.{attrs-length, values-length, sessions-length, formulas-length}
 

@@ -1,7 +1,7 @@
 -- The rule file's format is lawful: what is written reads as it was, what is read would be written so, and a fault is refused with its number.
 -- In order: the head, attributes, values, sessions, formulas, the whole. Each is one term in the shape of its format.
 -- Not here: what lawful means, and each way of building a format (format's Law).
-use mathlib.Core.Path.{_≡_, refl, ap, _∙_}
+use mathlib.Core.Path.{refl, ap, _∙_}
 use mathlib.Core.List.{List, [], _∷_}
 use Prim.Native.Nat.{ℕ, _+_, _*_, _%_, _^_}
 use lib.ListN.{length}

@@ -2,7 +2,7 @@
 -- A node is the number of its 20 bits: operator (4), a (8), b (8). A value operand is a holder (3) and an attribute number (5).
 -- Assumes nothing.
 use mathlib.Core.Bool.{Bool, false, _&&_, _||_, cond}
-use mathlib.Core.List.{List, [], _∷_}
+use mathlib.Core.List.{List}
 use Prim.Native.Nat.{ℕ, _/_, _%_}
 use lib.Dec.{ltb, leb, eqb}
 use lib.ListN.{length, getD}

@@ -1,10 +1,10 @@
 -- The rule file's parts [01:The rule file]: counts, attributes with their lists of values, holders' values, and formulas.
 -- A policy is the meaning of rules: every later meaning is of the policy. Lists are as long as their counts.
 -- Assumes nothing.
-use mathlib.Core.Bool.{Bool, true, cond}
+use mathlib.Core.Bool.{cond}
 use mathlib.Core.List.{List, [], _∷_}
 use Prim.Native.Nat.{ℕ, zero, suc, _+_, _^_}
-use lib.Dec.{ltb, leb, eqb}
+use lib.Dec.{leb, eqb}
 
 -- a count of each kind
 pub record Head : Type 0 where

@@ -5,7 +5,7 @@ use mathlib.Core.List.{List}
 use Prim.Native.Nat.{ℕ, _+_, _*_}
 use lib.ListN.{getD}
 use Rattle.bits.specs.Packed.{tab}
-use Rattle.policy.specs.Policy.{Head, Attr, Lists, Session, Policy}
+use Rattle.policy.specs.Policy.{Attr, Lists, Session, Policy}
 use Rattle.policy.specs.declared.Class.{Class}
 use Rattle.policy.specs.declared.Classes.{Classes}
 use Rattle.policy.specs.declared.Values.{Values}

@@ -10,7 +10,7 @@ use native.Mathlib.Omega.{arith}
 use lib.Pow.{pow-add, pow-mono, pow-pos}
 use Rattle.bits.specs.Packed.{tab}
 use Rattle.bits.proofs.Packed.{tab-zero, tab-first}
-use Rattle.format.specs.Format.{Format, taken, field, within}
+use Rattle.format.specs.Format.{taken, field, within}
 use Rattle.format.specs.Steps.{from, resOf, judged}
 use Rattle.format.specs.declared.Cursor.{Cursor}
 use Rattle.format.proofs.Chain.{chain-pair, chain-via, chain-field}

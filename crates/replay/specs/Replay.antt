@@ -4,10 +4,9 @@
 -- Assumes nothing.
 use mathlib.Core.Bool.{Bool, false, true, _&&_, cond}
 use mathlib.Core.List.{List, [], _∷_}
-use Prim.Native.Nat.{ℕ, _-_}
+use Prim.Native.Nat.{ℕ}
 use lib.Dec.{eqb}
 use lib.ListN.{length, getD}
-use Rattle.policy.specs.Policy.{Policy}
 use Rattle.rules.specs.Answers.{Answer, refusal, rules}
 use Rattle.runs.specs.Model.{Model}
 use Rattle.runs.specs.State.{Session, closed, opened}
@@ -21,7 +20,7 @@ use Rattle.live.specs.declared.Outcome.the-variants as Outcome
 use Rattle.steps.specs.Step.{sessionNow}
 use Rattle.starting.specs.Start.{started, nothingGiven}
 use Rattle.replay.specs.Question.{partsOf, whoOf, whichOf, asks}
-use Rattle.replay.specs.Rows.{Ran, rowsIn}
+use Rattle.replay.specs.Rows.{rowsIn}
 use Rattle.replay.specs.declared.question.Question.{Question}
 
 -- a session is one of user a

@@ -3,7 +3,7 @@
 use mathlib.Core.List.{List, [], _∷_}
 use Prim.Native.Nat.{ℕ, _+_}
 use Rattle.runs.specs.Model.{Model}
-use Rattle.live.specs.Lent.{Lent, After}
+use Rattle.live.specs.Lent.{Lent}
 use Rattle.live.specs.declared.Outcome.{Outcome}
 use Rattle.live.specs.declared.Outcome.the-variants as Outcome
 use Rattle.steps.specs.Step.{stepIn}

@@ -16,7 +16,7 @@ use Rattle.format.proofs.Fault.{BadAt, fault-none, none-fault}
 use Rattle.format.proofs.Chain.{res-good, res-bad}
 use Rattle.policy.specs.Policy.{Policy}
 use Rattle.policy.specs.File.{policyFormat}
-use Rattle.rules.specs.Answers.{Answer, refusal, rules, answerOf, answered, reading, beside, noRules, writing, writtenOf, filled}
+use Rattle.rules.specs.Answers.{refusal, rules, answerOf, answered, reading, writing, writtenOf, filled}
 use Rattle.rules.specs.declared.Reading.{Reading}
 use Rattle.rules.specs.declared.Reading.the-variants as Reading
 use Rattle.rules.specs.declared.Written.the-variants as Written

@@ -11,7 +11,6 @@ use Rattle.format.specs.Format.{Res, ok, bad}
 use Rattle.format.specs.File.{Bytes, refused, bytes, readFile, writeFile}
 use Rattle.policy.specs.Policy.{Policy}
 use Rattle.policy.specs.File.{policyFormat}
-use Rattle.policy.specs.Rules.{policyOf}
 use Rattle.policy.specs.declared.Class.{Class}
 use Rattle.policy.specs.declared.Values.{Values}
 use Rattle.policy.specs.declared.Rules.{Rules}

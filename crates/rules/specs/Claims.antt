@@ -11,7 +11,7 @@ use Rattle.policy.specs.Policy.{Policy, fewestBits}
 use Rattle.policy.specs.File.{policyFormat}
 use Rattle.policy.specs.Rules.{policyOf}
 use Rattle.policy.specs.declared.Rules.{Rules}
-use Rattle.rules.specs.Answers.{Answer, refusal, rules, reading, writing}
+use Rattle.rules.specs.Answers.{refusal, rules, reading, writing}
 
 -- every element is a byte
 abbrev pub Bytes : List ℕ → Type 0

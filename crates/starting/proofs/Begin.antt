@@ -1,9 +1,8 @@
 -- Starting leaves cells that code the beginning of the file's runs. In order: lists; the starting cells read as the beginning stands.
 use mathlib.Core.Path.{_≡_, refl, sym, ap, _∙_, subst}
-use mathlib.Core.Bool.{Bool, true}
-use mathlib.Core.List.{List, [], _∷_, _++_, map}
-use mathlib.Core.Option.{Option, none, some}
-use Prim.Native.Nat.{ℕ, zero, suc, _+_, _≤_, _<_}
+use mathlib.Core.List.{List, [], _∷_, map}
+use mathlib.Core.Option.{some}
+use Prim.Native.Nat.{ℕ, zero, suc, _≤_, _<_}
 use native.Mathlib.Decide.{decLt}
 use native.Mathlib.Omega.{arith}
 use lib.ListN.{length, getD, drop, length-map, length-append, List·getD-append, List·getD-eq-default}
@@ -12,7 +11,7 @@ use Rattle.rules.specs.Answers.{Answer, reading, rules}
 use Rattle.lists.specs.Sound.{Sound, startingSession}
 use Rattle.runs.specs.State.{closed, opened, begin, sessionAt, itemAt as valueAt}
 use Rattle.allowed.specs.Allowed.{modelOf}
-use Rattle.cells.specs.Cell.{placeOf, openCell, itemCell}
+use Rattle.cells.specs.Cell.{openCell, itemCell}
 use Rattle.cells.proofs.Laws.{placeOf-is, session-there, session-past, item-there}
 use Rattle.live.specs.Lent.{Lent, After, numbers}
 use Rattle.live.specs.declared.Outcome.the-variants as Outcome

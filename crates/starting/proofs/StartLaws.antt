@@ -9,7 +9,6 @@ use borrow.Author.Tests.{le-leb, lt-leb}
 use lib.Dec.{leb}
 use lib.ListN.{length, drop, getD, set, length-append, length-map}
 use lib.Seq.{drop-cons, set-at}
-use Rattle.policy.specs.Policy.{Session}
 use Rattle.policy.specs.Rules.{sessionsOf, valuesOf, policyOf}
 use Rattle.policy.specs.declared.Rules.{Rules}
 use Rattle.policy.specs.declared.Sessions.{Sessions}

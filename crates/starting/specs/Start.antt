@@ -10,7 +10,7 @@ use Rattle.policy.specs.Rules.{policyOf}
 use Rattle.rules.specs.Answers.{Answer, refusal, rules, noRules}
 use Rattle.runs.specs.State.{State, begin}
 use Rattle.cells.specs.Cell.{openCell, itemCell}
-use Rattle.live.specs.Lent.{Lent, After, refused, done, tested}
+use Rattle.live.specs.Lent.{After, refused, done, tested}
 use Rattle.live.specs.declared.Next.{Next}
 
 -- some cells over the front of others

@@ -9,12 +9,10 @@ use lib.ListN.{length}
 use Rattle.runs.specs.Model.{Model}
 use Rattle.runs.specs.State.{Session, closed, opened}
 use Rattle.runs.specs.Step.{Step}
-use Rattle.cells.specs.Cell.{placeOf}
-use Rattle.cells.specs.Row.{partsOf, stepOf}
-use Rattle.live.specs.Lent.{Lent, After, refused, done, tested, ofSession, ofItem, allGiven, numbers, left}
+use Rattle.live.specs.Lent.{Lent, After, refused, done, tested, ofSession, ofItem, allGiven, left}
 use Rattle.live.specs.declared.Next.{Next}
 use Rattle.live.proofs.Outcomes.{done-outcome}
-use Rattle.steps.specs.Step.{sessionNow, itemNow, opening, closing, changing, making, modifying, accessing, byKind, stepIn}
+use Rattle.steps.specs.Step.{opening, closing, changing, making, modifying, accessing, byKind, stepIn}
 use Rattle.steps.specs.Codes.{Reads}
 
 -- the same outcome

@@ -1,20 +1,20 @@
 -- Cells that code a run's state still do so after each way of writing them. In order: lists; a session is added; a session is changed;
 -- an item is added; an item is changed.
 use mathlib.Core.Path.{_≡_, refl, sym, ap, _∙_, subst}
-use mathlib.Core.Bool.{Bool, true, false, _&&_}
+use mathlib.Core.Bool.{true}
 use mathlib.Core.List.{List, [], _∷_, _++_}
-use mathlib.Core.Option.{Option, none, some}
-use Prim.Native.Nat.{ℕ, zero, suc, _+_, _≤_, _<_}
+use mathlib.Core.Option.{some}
+use Prim.Native.Nat.{ℕ, zero, suc, _+_, _<_}
 use native.Mathlib.Decide.{ℕ-discrete, decLt}
 use native.Mathlib.Omega.{arith}
-use borrow.Author.Tests.{ltb-true, lt-ltb}
+use borrow.Author.Tests.{ltb-true}
 use lib.Dec.{ltb}
 use lib.ListN.{length, getD, set, length-set, length-append}
 use lib.Seq.{getD-set-same, getD-set-other, getD-append-seam}
 use Rattle.bits.proofs.Set.{both-true}
 use Rattle.runs.specs.Model.{Model}
 use Rattle.runs.specs.State.{Session, closed, opened, State, sessionAt, itemAt as valueAt}
-use Rattle.runs.proofs.Laws.{state, sessionAt-is, itemAt-is}
+use Rattle.runs.proofs.Laws.{state}
 use Rattle.cells.specs.Cell.{placeOf, openCell, closedCell, itemCell}
 use Rattle.cells.specs.Claims.{SessionThere, ItemThere}
 use Rattle.cells.proofs.Laws.{session-reads, session-opened, session-closed, session-other, session-raised, item-reads, item-written, item-other, item-raised}

@@ -3,23 +3,23 @@
 use mathlib.Core.Path.{_≡_, refl, sym, ap, _∙_, subst}
 use mathlib.Core.Bool.{Bool, true, false, _||_}
 use mathlib.Core.List.{List, [], _∷_, _++_}
-use mathlib.Core.Option.{Option, none, some}
-use Prim.Native.Nat.{ℕ, zero, suc, _+_, _≤_, _<_}
+use mathlib.Core.Option.{some}
+use Prim.Native.Nat.{ℕ, zero, suc, _+_, _<_}
 use native.Mathlib.Omega.{arith}
-use borrow.Author.Tests.{eqb-true, ltb-true, leb-true, eq-eqb, lt-ltb, lt-leb}
-use lib.Dec.{ltb, leb, eqb}
+use borrow.Author.Tests.{eqb-true, ltb-true, eq-eqb, lt-ltb, lt-leb}
+use lib.Dec.{leb, eqb}
 use lib.ListN.{length, set}
 use Rattle.runs.specs.Model.{Model}
-use Rattle.runs.specs.State.{Session, closed, opened, State, sessionAt, itemAt as valueAt}
+use Rattle.runs.specs.State.{closed, opened, State, sessionAt, itemAt as valueAt}
 use Rattle.runs.specs.Step.{Step, Carried, opens, closes, changes, makes, modifies, grants}
-use Rattle.runs.proofs.Laws.{stepped-carried, carried-stepped}
+use Rattle.runs.proofs.Laws.{carried-stepped}
 use Rattle.cells.specs.Row.{partsOf, stepOf}
 use Rattle.cells.specs.Cell.{openCell}
 use Rattle.cells.proofs.Laws.{item-reads}
-use Rattle.live.specs.Lent.{Lent, After, refused, done, tested, ofSession, ofItem, allGiven, numbers, left}
+use Rattle.live.specs.Lent.{Lent, After, refused, done, allGiven, numbers, left}
 use Rattle.live.specs.declared.Outcome.{Outcome}
 use Rattle.live.specs.declared.Outcome.the-variants as Outcome
-use Rattle.live.proofs.Outcomes.{AllHold, refused-not-done, done-outcome, done-lent, tested-done, tested-all, session-done, session-is, item-done, item-is}
+use Rattle.live.proofs.Outcomes.{refused-not-done, done-outcome, done-lent, tested-done, tested-all, session-done, session-is, item-done, item-is}
 use Rattle.steps.specs.Step.{sessionNow, itemNow, withSession, opening, closing, changing, making, modifying, accessing, byKind, stepIn}
 use Rattle.steps.specs.Codes.{Bytes, Codes, Room}
 use Rattle.steps.specs.Claims.{TableStep}

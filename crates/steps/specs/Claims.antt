@@ -2,19 +2,18 @@
 -- Assumes nothing.
 use mathlib.Core.Path.{_≡_}
 use mathlib.Core.Logic.{_↔_}
-use mathlib.Core.List.{List, [], _∷_, _++_}
+use mathlib.Core.List.{List, _∷_}
 use Prim.Native.Nat.{ℕ, _≤_, _<_}
-use lib.ListN.{length}
 use Rattle.policy.specs.Policy.{Policy}
 use Rattle.rules.specs.Answers.{reading, rules}
 use Rattle.runs.specs.Model.{Model}
 use Rattle.runs.specs.State.{State}
-use Rattle.runs.specs.Step.{Step, Carried}
+use Rattle.runs.specs.Step.{Carried}
 use Rattle.cells.specs.Row.{partsOf, stepOf}
 use Rattle.allowed.specs.Allowed.{modelOf}
-use Rattle.live.specs.Lent.{Lent, After}
+use Rattle.live.specs.Lent.{Lent}
 use Rattle.live.specs.declared.Outcome.the-variants as Outcome
-use Rattle.steps.specs.Step.{stepIn, stepsIn, sessionNow, itemNow}
+use Rattle.steps.specs.Step.{stepIn, stepsIn}
 use Rattle.steps.specs.Codes.{Bytes, Codes, Room, Reads}
 
 -- a row on cells that code the state t of a run

@@ -2,7 +2,7 @@
 -- Each kind is a row of tests with the number that each gives, in the paper's order, and what is done where all hold.
 -- For any model: rules come in through theirs.
 -- Assumes nothing.
-use mathlib.Core.Bool.{Bool, _||_}
+use mathlib.Core.Bool.{_||_}
 use mathlib.Core.List.{List, [], _∷_}
 use mathlib.Core.Option.{Option}
 use Prim.Native.Nat.{ℕ, zero, suc, _+_}

@@ -7,10 +7,10 @@ use Prim.Native.Nat.{ℕ, _<_}
 use Rattle.runs.specs.Model.{Model}
 use Rattle.runs.specs.State.{State}
 use Rattle.runs.specs.Grant.{Who, Which, Leak}
-use Rattle.runs.specs.Reach.{Star, Reach, Brought, AskedWho, AskedWhich, Risk}
+use Rattle.runs.specs.Reach.{Star, Brought, AskedWho, AskedWhich}
 use Rattle.runs.specs.Outcome.{SessionStands, ItemStands, Below}
 use Rattle.verdict.specs.Closure.{inTable, closure}
-use Rattle.verdict.specs.Verdict.{reached, allBrought, pairs, leaks, values}
+use Rattle.verdict.specs.Verdict.{allBrought, pairs, leaks, values}
 use Rattle.verdict.specs.Meaning.{Counts}
 
 -- the computed closure is the closure: of any start and edges

@@ -1,5 +1,4 @@
 -- `bits::kept` meets its contract: it is nothing, or the byte, which is there where bits before it stay.
-use mathlib.Core.Path.{sym}
 use native.Mathlib.Omega.{arith}
 use borrow.Author.Tests.{eq-eqb, ne-eqb}
 use Rattle.bits.proofs.kept.Statement.{statement}

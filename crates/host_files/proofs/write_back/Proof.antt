@@ -1,6 +1,5 @@
 -- `host_files::write_back` meets its contract: a refused file gives its number; rules are written as `write_rules` says.
-use mathlib.Core.Path.{_≡_, refl, sym, ap, _∙_}
-use Prim.Native.Nat.{ℕ}
+use mathlib.Core.Path.{_≡_, sym, ap, _∙_}
 use lib.ListN.{length}
 use borrow.Author.Needs.{needs}
 use Rattle.format.specs.File.{Bytes}

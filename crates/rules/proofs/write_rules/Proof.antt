@@ -7,7 +7,6 @@ use Prim.Native.Nat.{ℕ, _≤_, _<_}
 use lib.ListN.{length}
 use Rattle.bits.specs.Packed.{packed}
 use Rattle.bits.proofs.Packed.{packed-length}
-use Rattle.format.specs.Format.{Format}
 use Rattle.format.specs.Steps.{Stores}
 use Rattle.format.proofs.Store.{written, not-written, stores-length}
 use Rattle.policy.specs.File.{policyFormat}

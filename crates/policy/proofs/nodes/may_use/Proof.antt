@@ -1,7 +1,6 @@
 -- `policy::may_use` meets its contract: each return is one case of the definition.
 -- Assumes nothing.
-use mathlib.Core.Path.{_≡_, sym, ap, _∙_}
-use mathlib.Core.Bool.{_||_}
+use mathlib.Core.Path.{sym, _∙_}
 use native.Mathlib.Omega.{arith}
 use borrow.Author.Tests.{eq-eqb, ne-eqb}
 use Rattle.policy.proofs.NodeLaws.{or-true, or-false, use-opening, use-changing, use-session, use-making, use-item, use-proposed, use-others}

@@ -1,7 +1,7 @@
 -- `policy::class_width` meets its contract. The loop's invariant: w is the width of the first i attributes, and at most 255 for each.
 -- The measure is what is left of the count. Assumes nothing.
 use mathlib.Core.Path.{_≡_, sym, ap, _∙_}
-use Prim.Native.Nat.{ℕ, _+_, _*_, _-_, _≤_}
+use Prim.Native.Nat.{ℕ, _*_, _-_, _≤_}
 use native.Mathlib.Omega.{arith}
 use borrow.Author.Needs.{needs}
 use Rattle.policy.specs.Policy.{width, bitsFor}

@@ -1,7 +1,6 @@
 -- `policy::code_ok` meets its contract: a number is below 2 ^ size when nothing is left of it after a shift by size, and always from size 64 on.
 -- Assumes nothing.
 use mathlib.Core.Path.{_≡_, sym, _∙_}
-use mathlib.Core.Bool.{true, false}
 use Prim.Native.Nat.{ℕ, _*_, _/_, _^_, _≤_, _<_}
 use native.Mathlib.Decide.{decLt}
 use native.Mathlib.Nat.{div-lt-iff-lt-mul}
@@ -11,7 +10,7 @@ use borrow.Author.Tests.{le-leb, lt-ltb, le-ltb, eq-eqb, ne-eqb}
 use lib.Dec.{ltb, eqb}
 use lib.Pow.{pow-pos, pow-mono}
 use Rattle.format.specs.Format.{within}
-use Rattle.policy.specs.Policy.{Attr, codes}
+use Rattle.policy.specs.Policy.{codes}
 use Rattle.policy.proofs.shape.code_ok.Statement.{statement}
 use Rattle.policy.proofs.shape.code_ok.Tie as tie
 

@@ -3,7 +3,7 @@ use mathlib.Core.Path.{_≡_}
 use Prim.Native.Nat.{_+_}
 use native.Mathlib.Omega.{arith}
 use borrow.Author.Needs.{needs}
-use Rattle.format.specs.Format.{Format, within, field}
+use Rattle.format.specs.Format.{within, field}
 use Rattle.format.specs.Steps.{from, resOf}
 use Rattle.format.proofs.Chain.{chain-pair, chain-via, chain-zeros}
 use Rattle.policy.specs.File.{largest, attrFormat}

@@ -7,7 +7,6 @@ use native.Mathlib.Omega.{arith}
 use borrow.Author.Needs.{needs}
 use borrow.Author.Tests.{leb-true}
 use lib.Dec.{leb}
-use Rattle.format.specs.Format.{Format}
 use Rattle.format.specs.Steps.{from, resOf}
 use Rattle.format.specs.declared.Cursor.{Cursor}
 use Rattle.format.proofs.Chain.{res-any, chain-check}

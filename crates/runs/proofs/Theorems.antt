@@ -1,14 +1,18 @@
 -- The claims of specs/Claims.antt, one line each.
 use mathlib.Core.List.{[]}
-use Rattle.runs.specs.Claims.{StepComputes, NeverIsExact, CountsAreExact, CouldIsReach, BroughtIsCould, LeakIsShort, RowsAreEnough}
+use Rattle.runs.specs.Claims.{StepComputes, NoStepIsNoLeak, NeverIsExact, CountsAreExact, CouldIsReach, BroughtIsCould, LeakIsShort, RowsAreEnough}
 use Rattle.runs.specs.State.{begin}
 use Rattle.runs.proofs.Laws.{stepped-carried, carried-stepped}
 use Rattle.runs.proofs.Decide.{leak-risk, risk-within, within-leak, session-stands, item-stands, none-brought}
+use Rattle.runs.proofs.Never.{no-step-no-leak, no-leak-no-step}
 use Rattle.runs.proofs.Short.{short-leak}
 use Prim.Native.Nat.{_^_}
 
 pub step-computes : StepComputes
 step-computes m s p after = (stepped-carried m s p after, carried-stepped m s p after)
+
+pub no-step-is-no-leak : NoStepIsNoLeak
+no-step-is-no-leak m start who which permission = (no-step-no-leak m start who which permission, no-leak-no-step m start who which permission)
 
 pub never-is-exact : NeverIsExact
 never-is-exact m start b who which q a c = (leak-risk m start b who which q a c, λ r. within-leak m start (risk-within m start who which q c r))

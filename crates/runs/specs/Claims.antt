@@ -9,13 +9,18 @@ use Rattle.runs.specs.Model.{Model}
 use Rattle.runs.specs.State.{opened, Item, State, sessionAt, begin}
 use Rattle.runs.specs.Step.{Step, Carried}
 use Rattle.runs.specs.Stepped.{stepped}
-use Rattle.runs.specs.Grant.{Who, Which, Leak}
+use Rattle.runs.specs.Grant.{Who, Which, Leak, NoStepFits}
 use Rattle.runs.specs.Reach.{Reach, Brought, WhichReach, AskedWho, AskedWhich, Risk}
 use Rattle.runs.specs.Outcome.{SessionStands, ItemStands, Below, LeakWithin}
 
 -- [01:Runs, the list]: what is computed is carried out, and only that, with the state that it gives
 abbrev pub StepComputes : Type 0
 StepComputes = (m : Model) (s : State) (p : Step) (after : State) → (stepped m s p ≡ some after) ↔ Carried m s p after
+
+-- [Demand 3, "no step in it grants"]: no step of any list grants what is asked exactly when no list and one further step do
+abbrev pub NoStepIsNoLeak : Type 0
+NoStepIsNoLeak = (m : Model) (start : State) (who : Who) (which : Which) (permission : ℕ)
+    → ((steps : List Step) → NoStepFits m start who which permission steps) ↔ (Leak m start who which permission → ⊥)
 
 -- [01:The question]: of any rules and any start that was brought about, some run grants what is asked exactly when the
 -- closures hold a session value and an item value that are granted

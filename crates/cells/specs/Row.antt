@@ -15,3 +15,7 @@ bitsOf r = r .kind % 2 ^ 4 * 2 ^ 60 + r .actor % 2 ^ 20 * 2 ^ 40 + r .target % 2
 -- the step that a row asks for
 unfoldable pub stepOf : Row → Step
 stepOf r = record { kind = r .kind; actor = r .actor; target = r .target; value = r .value }
+
+-- the step of a row
+abbrev pub rowStep : ℕ → Step
+rowStep row = stepOf (partsOf row)

@@ -16,13 +16,13 @@ use Rattle.runs.specs.Outcome.{Below}
 use Rattle.runs.proofs.Laws.{state, itemAt-is}
 use Rattle.runs.proofs.Bring.{row}
 use Rattle.verdict.proofs.Decided.{accesses-is}
+use Rattle.cells.specs.Leak.{IsLeak}
 use Rattle.search.specs.Searched.{valueAt, depthAt, Link, root, link, Good}
 use Rattle.search.specs.Claims.{Begun, Modify}
 use Rattle.search.specs.declared.queue.Found.{Found}
 use Rattle.session_rows.specs.Writing.{Writing, rowOf, wrote}
 use Rattle.leak.specs.Leak.{itemTo, itemOf, actorReady, actorOf, leakWritten}
 use Rattle.leak.specs.Standing.{Stands, WhichAimed, Aimed}
-use Rattle.leak.specs.Claims.{IsLeak}
 use Rattle.leak.specs.declared.Aim.{Aim}
 use Rattle.leak.proofs.Rows.{Fit, row-step, Done, done-one, done-append}
 use Rattle.leak.proofs.Helpers.{longer, wrote-fits, sofar-start, Able}

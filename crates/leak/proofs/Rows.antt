@@ -10,10 +10,9 @@ use Rattle.runs.specs.State.{State}
 use Rattle.runs.specs.Step.{Step, Carried}
 use Rattle.runs.specs.Outcome.{CarriedAll, stop, then}
 use Rattle.runs.proofs.Bring.{row, append-carried}
-use Rattle.cells.specs.Row.{partsOf, stepOf}
+use Rattle.cells.specs.Row.{partsOf, stepOf, rowStep}
 use Rattle.cells.proofs.Rows.{parts-again, step-is}
 use Rattle.session_rows.specs.Writing.{rowOf}
-use Rattle.leak.specs.Standing.{rowStep}
 
 -- every part of a row fits its field
 pub record Fit (kind actor target value : ℕ) : Type 0 where

@@ -1,29 +1,19 @@
 -- What is proved of the rows of a leak. The proofs are in proofs/Theorems.antt.
 -- Assumes nothing.
 use mathlib.Core.Path.{_≡_}
-use mathlib.Core.List.{List, [], _∷_, _++_, map}
+use mathlib.Core.List.{List, []}
 use Prim.Native.Nat.{ℕ, _+_, _*_, _≤_}
 use lib.ListN.{length}
 use Rattle.runs.specs.Model.{Model}
 use Rattle.runs.specs.State.{State}
-use Rattle.runs.specs.Grant.{Who, Which, Fits}
-use Rattle.runs.specs.Outcome.{CarriedAll, Below}
-use Rattle.cells.specs.Row.{partsOf}
+use Rattle.runs.specs.Grant.{Who, Which}
+use Rattle.runs.specs.Outcome.{Below}
+use Rattle.cells.specs.Leak.{IsLeak}
 use Rattle.search.specs.declared.queue.Found.{Found}
 use Rattle.session_rows.specs.Writing.{Writing}
 use Rattle.leak.specs.Leak.{leakWritten}
-use Rattle.leak.specs.Standing.{rowStep, Stands, Aimed}
+use Rattle.leak.specs.Standing.{Stands, Aimed}
 use Rattle.leak.specs.declared.Aim.{Aim}
-
--- rows that are a leak
-pub record IsLeak (m : Model) (start : State) (who : Who) (which : Which) (permission : ℕ) (rows : List ℕ) : Type 0 where
-  pub before : List ℕ
-  pub last : ℕ
-  pub rows-are : rows ≡ before ++ last ∷ []
-  pub state : State
-  pub carried : CarriedAll m start (map rowStep before) state
-  pub fits : Fits m state who which permission (rowStep last)
-  pub plain : map (λ row. partsOf row .spare) rows ≡ map (λ row. 0) rows
 
 -- [01:The question; Demand 3]: what is written is a leak, within the paper's number of rows: the values of sessions are below n, those of items
 -- below k, and n and k are at most 256

@@ -10,11 +10,10 @@ use Rattle.lanes.specs.Lanes.{laneOf}
 use Rattle.runs.specs.Model.{Model}
 use Rattle.runs.specs.State.{opened, State, sessionAt}
 use Rattle.runs.specs.Edge.{accesses}
-use Rattle.runs.specs.Step.{Step}
 use Rattle.runs.specs.Grant.{Who, session, user, anyone, Which, item, anything}
 use Rattle.runs.specs.Reach.{Brought}
 use Rattle.runs.specs.Outcome.{CarriedAll}
-use Rattle.cells.specs.Row.{partsOf, stepOf}
+use Rattle.cells.specs.Row.{partsOf, rowStep}
 use Rattle.search.specs.Queue.{nothing}
 use Rattle.search.specs.Sessions.{sessionsFound, ownFound}
 use Rattle.search.specs.Searched.{Good, valueAt, viaAt}
@@ -23,10 +22,6 @@ use Rattle.search.specs.Claims.{Modify, Begun}
 use Rattle.search.specs.declared.queue.Found.{Found}
 use Rattle.session_rows.specs.Writing.{Writing}
 use Rattle.leak.specs.declared.Aim.{Aim}
-
--- the step of a row
-abbrev pub rowStep : ℕ → Step
-rowStep row = stepOf (partsOf row)
 
 -- the rows were carried out from the start to s; the next number is s's; and the sessions that are said to stand open do
 pub record Stands (m : Model) (start : State) (w : Writing) (s : State) : Type 0 where

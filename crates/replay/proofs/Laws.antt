@@ -17,7 +17,7 @@ use Rattle.policy.proofs.Laws.{values-length, sessions-length}
 use Rattle.rules.specs.Answers.{Answer, refusal, rules}
 use Rattle.lists.specs.Lists.{listed}
 use Rattle.runs.specs.Model.{Model}
-use Rattle.runs.specs.Grant.{Who, session, user, anyone}
+use Rattle.runs.specs.Grant.{Who, session, user, anyone, item, anything}
 use Rattle.allowed.specs.Allowed.{modelOf}
 use Rattle.cells.specs.Row.{partsOf as rowParts, stepOf}
 use Rattle.cells.specs.Cell.{sessionAt, sessionOf}
@@ -55,6 +55,20 @@ module _ (sessions users : ℕ) (q : Question) where
       unfolding whoAmong
       nobody-among t = rw (ne-eqb (q .whokind) 0 n, ne-eqb (q .whokind) 1 o, ne-eqb (q .whokind) 2 t) refl
 
+module _ (items : ℕ) (q : Question) where
+  pub item-among : q .itemkind ≡ 0 → whichAmong items q ≡ ltb (q .item) items
+  unfolding whichAmong
+  item-among e = rw (eq-eqb (q .itemkind) 0 e) refl
+
+  module _ (n : q .itemkind ≡ 0 → ⊥) where
+    pub anything-among : q .itemkind ≡ 1 → whichAmong items q ≡ eqb (q .item) 0
+    unfolding whichAmong
+    anything-among e = rw (ne-eqb (q .itemkind) 0 n, eq-eqb (q .itemkind) 1 e) refl
+
+    pub no-item-among : (q .itemkind ≡ 1 → ⊥) → whichAmong items q ≡ false
+    unfolding whichAmong
+    no-item-among o = rw (ne-eqb (q .itemkind) 0 n, ne-eqb (q .itemkind) 1 o) refl
+
 module _ (q : Question) where
   pub who-session : q .whokind ≡ 0 → whoOf q ≡ session (q .who)
   unfolding whoOf
@@ -67,6 +81,14 @@ module _ (q : Question) where
   pub who-anyone : (q .whokind ≡ 0 → ⊥) → (q .whokind ≡ 1 → ⊥) → whoOf q ≡ anyone
   unfolding whoOf
   who-anyone n o = rw (ne-eqb (q .whokind) 0 n, ne-eqb (q .whokind) 1 o) refl
+
+  pub which-item : q .itemkind ≡ 0 → whichOf q ≡ item (q .item)
+  unfolding whichOf
+  which-item e = rw (eq-eqb (q .itemkind) 0 e) refl
+
+  pub which-anything : (q .itemkind ≡ 0 → ⊥) → whichOf q ≡ anything
+  unfolding whichOf
+  which-anything d = rw (ne-eqb (q .itemkind) 0 d) refl
 
 -- what the bytes ask, by their parts and the counts of the rules
 pub asked : (r : Rules) (bytes : List ℕ) (q : Question) → q ≡ partsOf bytes →

@@ -13,7 +13,7 @@ use Rattle.rules.specs.Answers.{rules}
 use Rattle.runs.specs.Model.{Model}
 use Rattle.runs.specs.State.{State, begin}
 use Rattle.runs.specs.Step.{Step, Carried, opens, closes, changes, makes, modifies, grants}
-use Rattle.cells.specs.Row.{stepOf}
+use Rattle.cells.specs.Row.{stepOf, rowStep}
 use Rattle.live.specs.Lent.{Lent, After, done, numbers}
 use Rattle.live.specs.declared.Outcome.the-variants as Outcome
 use Rattle.live.proofs.Laws.{is-left}
@@ -21,7 +21,7 @@ use Rattle.live.proofs.Outcomes.{tested-all, done-outcome}
 use Rattle.steps.specs.Codes.{Codes, Room}
 use Rattle.steps.proofs.Kept.{Celled}
 use Rattle.starting.specs.Start.{over, sessionCells, itemCells, started, beginning}
-use Rattle.replay.specs.Claims.{rowStep, ofKind, Enough}
+use Rattle.replay.specs.Claims.{ofKind, Enough, NumbersLeft}
 
 -- the counts
 
@@ -119,13 +119,13 @@ module _ (p : Policy) (rows sessions items : List ℕ) (e : Enough p rows (lengt
   pub enough-starts : started (rules p) sessions items .outcome ≡ Outcome.Done
   enough-starts = ap (λ (a : After). a .outcome) started-done ∙ done-outcome _
 
-  pub enough-ample : Ample (started (rules p) sessions items .lent) (beginning p) rows
+  pub enough-ample : NumbersLeft p rows → Ample (started (rules p) sessions items .lent) (beginning p) rows
   unfolding done sessionCells itemCells beginning begin
-  enough-ample =
+  enough-ample n =
       rw started-done
       record {
         session-cells = rw (over-length (sessionCells (p .sessions)) sessions (simp length-map (omega (arith, e .session-cells)))) (simp length-map (e .session-cells));
         item-cells = rw (over-length (itemCells (p .items)) items (simp length-map (omega (arith, e .item-cells)))) (e .item-cells);
-        session-numbers = simp length-map (e .session-numbers);
-        item-numbers = e .item-numbers;
+        session-numbers = simp length-map (n .session-numbers);
+        item-numbers = n .item-numbers;
       }

@@ -19,7 +19,8 @@ use Rattle.runs.specs.Grant.{Who, session, user, anyone, Which, item, anything,
 use Rattle.runs.specs.Outcome.{CarriedAll, stop, then}
 use Rattle.runs.proofs.Bring.{append-carried}
 use Rattle.allowed.specs.Allowed.{modelOf}
-use Rattle.cells.specs.Row.{partsOf as rowParts}
+use Rattle.cells.specs.Row.{partsOf as rowParts, rowStep}
+use Rattle.cells.specs.Leak.{IsLeak}
 use Rattle.live.specs.Lent.{Lent, After, refused}
 use Rattle.live.specs.declared.Outcome.{Outcome}
 use Rattle.live.specs.declared.Outcome.the-variants as Outcome
@@ -33,8 +34,9 @@ use Rattle.starting.proofs.Theorems.{start-is-the-beginning}
 use Rattle.replay.specs.Question.{partsOf, whoOf, whichOf, asks}
 use Rattle.replay.specs.Rows.{Ran, ranAll, further, rowsIn}
 use Rattle.replay.specs.Replay.{isOf, whoFits, whichFits, stepFits, lastFits, judged, played, replayed}
-use Rattle.replay.specs.Claims.{rowStep, Enough, RunLeak, ReplayIsTheRun}
+use Rattle.replay.specs.Claims.{Enough, NumbersLeft, AskedLeak, ReplayIsTheRun}
 use Rattle.replay.specs.declared.question.Question.{Question}
+use Rattle.replay.proofs.Asked.{asks-asked, asked-asks}
 use Rattle.replay.proofs.Laws.{none-fits, last-is, replay-shown}
 use Rattle.replay.proofs.Room.{Ample, ample-room, ample-after, enough-starts, enough-ample}
 
@@ -241,8 +243,12 @@ module _ (file : List ℕ) (p : Policy) (read : reading file ≡ rules p) (quest
       subst (λ (a : Answer). Codes (modelOf p) (started a sessions items .lent) (beginning p)) read
       (start-is-the-beginning file p read sessions items (subst (λ (a : Answer). started a sessions items .outcome ≡ Outcome.Done) (sym read) d))
 
+  -- the rows are a leak of what the question asks
+  abbrev Leaks : List ℕ → Type 0
+  Leaks = IsLeak (modelOf p) (beginning p) (whoOf q) (whichOf q) (q .permission)
+
   leak-shown : (l : List ℕ) → Codes (modelOf p) s (beginning p) → rowsIn (modelOf p) s 0 l .outcome ≡ Outcome.Done
-      → lastFits (modelOf p) (rowsIn (modelOf p) s 0 l .lent) q l ≡ true → RunLeak p question l
+      → lastFits (modelOf p) (rowsIn (modelOf p) s 0 l .lent) q l ≡ true → Leaks l
   leak-shown [] c d f = absurd (let z : false ≡ true = none-fits (modelOf p) (rowsIn (modelOf p) s 0 [] .lent) q [] refl ∙ f in let y : _≡_ {A = ℕ} 0 1 = cc in omega arith)
   leak-shown (row ∷ l) c d f =
       let r = told (modelOf p) (files-are-bytes file p read) row l s (beginning p) c 0 d in
@@ -259,25 +265,33 @@ module _ (file : List ℕ) (p : Policy) (read : reading file ≡ rules p) (quest
         plain = r .plain;
       }
 
-  pub is-sound : replayed (reading file) question rows sessions items .outcome ≡ Outcome.Done → (asks p question ≡ true) × RunLeak p question rows
+  pub is-sound : replayed (reading file) question rows sessions items .outcome ≡ Outcome.Done → AskedLeak p question rows
   is-sound e =
       replayed-done p question rows sessions items (subst (λ (a : Answer). replayed a question rows sessions items .outcome ≡ Outcome.Done) read e)
-      λ a b d f. (a, leak-shown rows (begun b) d f)
+      λ a b d f. record { who = whoOf q; which = whichOf q; permission = q .permission; asked = asks-asked p question a; leak = leak-shown rows (begun b) d f }
 
   -- all rows of a leak are carried out
-  leak-carried : (l : RunLeak p question rows) → CarriedAll (modelOf p) (beginning p) (map rowStep rows) (l .state)
+  leak-carried : (l : Leaks rows) → CarriedAll (modelOf p) (beginning p) (map rowStep rows) (l .state)
   leak-carried l =
       subst (λ (ps : List Step). CarriedAll (modelOf p) (beginning p) ps (l .state)) (sym (ap (map rowStep) (l .rows-are) ∙ map-append rowStep (l .before) (l .last ∷ [])))
       (append-carried (modelOf p) (l .carried) (then (grants (l .fits .granted)) stop))
 
-  pub is-complete : asks p question ≡ true → RunLeak p question rows → Enough p rows (length sessions) (length items)
+  complete : asks p question ≡ true → Leaks rows → Enough p rows (length sessions) (length items) → NumbersLeft p rows
       → replayed (reading file) question rows sessions items .outcome ≡ Outcome.Done
-  is-complete a l e =
+  complete a l e n =
       let d = enough-starts p rows sessions items e in
-      let x = shown (modelOf p) (files-are-bytes file p read) rows s (beginning p) (l .state) (begun d) (enough-ample p rows sessions items e) (leak-carried l) (l .plain) 0 in
+      let x = shown (modelOf p) (files-are-bytes file p read) rows s (beginning p) (l .state) (begun d) (enough-ample p rows sessions items e n) (leak-carried l) (l .plain) 0 in
       let u = rowsIn (modelOf p) s 0 rows .lent in
       let f = last-row (modelOf p) u q rows (l .before) (l .last) (l .rows-are) ∙ run-fits (modelOf p) q (rowStep (l .last)) u (l .state) (x .codes) (l .fits) in
       sym (ap (λ (y : After). y .outcome) (replay-shown question rows sessions items p read a refl d refl (x .outcome) (sym f) refl refl))
+
+  pub is-complete : AskedLeak p question rows → Enough p rows (length sessions) (length items) → NumbersLeft p rows
+      → replayed (reading file) question rows sessions items .outcome ≡ Outcome.Done
+  is-complete l =
+      let (a, w, i, k) = asked-asks p question (l .who) (l .which) (l .permission) (l .asked) in
+      complete a (subst (λ (x : Who). IsLeak (modelOf p) (beginning p) x (whichOf q) (q .permission) rows) w
+      (subst (λ (x : Which). IsLeak (modelOf p) (beginning p) (l .who) x (q .permission) rows) i
+      (subst (λ (x : ℕ). IsLeak (modelOf p) (beginning p) (l .who) (l .which) x rows) k (l .leak))))
 
 pub is-the-run : ReplayIsTheRun
 is-the-run = record { sound = is-sound; complete = is-complete }

@@ -1,4 +1,4 @@
--- The question [01:The question 1]: three bytes. Who kind (2 bits), who number (6), item kind (1), spare (1), item number (6), permission (4),
+-- The question, computed [01:The question 1]: three bytes. Who kind (2 bits), who number (6), item kind (1), spare (1), item number (6), permission (4),
 -- spare (4). What names something absent or breaks the layout asks nothing, and gets 10.
 -- Assumes nothing.
 use mathlib.Core.Bool.{Bool, _&&_, cond}
@@ -40,7 +40,7 @@ whoAmong sessions users q =
 
 -- the item is there, among so many starting ones: a starting one, or any
 unfoldable pub whichAmong : ℕ → Question → Bool
-whichAmong items q = cond (eqb (q .itemkind) 0) (ltb (q .item) items) (eqb (q .item) 0)
+whichAmong items q = cond (eqb (q .itemkind) 0) (ltb (q .item) items) (eqb (q .itemkind) 1 && eqb (q .item) 0)
 
 -- the question's parts ask something of the rules
 unfoldable pub partsAsk : Policy → Question → Bool

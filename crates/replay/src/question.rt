@@ -83,9 +83,12 @@ fn which_there(items: u8, q: Question) -> bool
     ensures { λ r. ⌜ r ≡ whichAmong items q ⌝ }
 {
     if q.itemkind == Question::ITEM {
-        q.item < items
-    } else {
+        return q.item < items;
+    }
+    if q.itemkind == Question::ANYTHING {
         q.item == 0
+    } else {
+        false
     }
 }
 

@@ -1,6 +1,6 @@
 -- Refusal, verdict and counts of a file and a question [01:The question; When a number is given instead, "the analyser adds 9, 10, 11"].
 -- Assumes nothing.
-use mathlib.Core.Bool.{not, cond}
+use mathlib.Core.Bool.{Bool, not, cond}
 use mathlib.Core.List.{List}
 use Prim.Native.Nat.{ℕ, _+_, _*_, _^_}
 use lib.Dec.{ltb}
@@ -24,15 +24,36 @@ itemValues p = 2 ^ width (p .lists .ofItem)
 unfoldable pub rowsNeeded : Policy → ℕ
 rowsNeeded p = sessionValues p + itemValues p * (sessionValues p + 1) + 1
 
--- verdict and counts
+-- verdicts as values: none, where a number is given; safe; leak
+abbrev pub noVerdict : ℕ
+noVerdict = 0
+
+abbrev pub safeVerdict : ℕ
+safeVerdict = 1
+
+abbrev pub leakVerdict : ℕ
+leakVerdict = 2
+
+-- the answer without the rows: the number that is given, 0 for none; the verdict; both counts
 pub record Told : Type 0 where
-  pub verdict : Verdict
+  pub number : ℕ
+  pub verdict : ℕ
   pub pairs : ℕ
   pub values : ℕ
 
+-- [01:How each place should look, "Where an answer is an enum"]: what each case of the program's verdict stands for, with the counts beside it
+unfoldable pub toldOf : Verdict → ℕ → ℕ → Told
+toldOf Verdict.Safe pairs values = record { number = 0; verdict = safeVerdict; pairs = pairs; values = values }
+toldOf Verdict.Leak pairs values = record { number = 0; verdict = leakVerdict; pairs = pairs; values = values }
+toldOf (Verdict.Refused n) pairs values = record { number = n; verdict = noVerdict; pairs = pairs; values = values }
+
 -- a number is given, and the counts are 0
 unfoldable pub refused : ℕ → Told
-refused n = record { verdict = Verdict.Refused n; pairs = 0; values = 0 }
+refused n = record { number = n; verdict = noVerdict; pairs = 0; values = 0 }
+
+-- every starting session could have been brought about by its user
+unfoldable pub startsBrought : Policy → Bool
+startsBrought p = allBrought (modelOf p) (sessionValues p) (beginning p .sessions)
 
 -- of rules and a question that are judged good
 unfoldable pub decided : Policy → List ℕ → Told
@@ -41,7 +62,8 @@ decided p question =
     let n = sessionValues p in
     let k = itemValues p in
     record {
-      verdict = cond (leaks (modelOf p) (beginning p) n k (whoOf q) (whichOf q) (q .permission)) Verdict.Leak Verdict.Safe;
+      number = 0;
+      verdict = cond (leaks (modelOf p) (beginning p) n k (whoOf q) (whichOf q) (q .permission)) leakVerdict safeVerdict;
       pairs = pairs (modelOf p) n (modelOf p .users);
       values = values (modelOf p) (beginning p) n k (whichOf q);
     }
@@ -50,6 +72,6 @@ decided p question =
 unfoldable pub told : Answer → List ℕ → ℕ → Told
 told (refusal n) question room = refused n
 told (rules p) question room =
-    cond (not (allBrought (modelOf p) (sessionValues p) (beginning p .sessions))) (refused 9)
+    cond (not (startsBrought p)) (refused 9)
     (cond (not (asks p question)) (refused 10)
     (cond (ltb room (rowsNeeded p)) (refused 11) (decided p question)))

@@ -1,29 +1,83 @@
--- What is proved of the answer, beside the promise of `analyse`. The proofs are in proofs/Theorems.antt.
+-- What is proved of every answer that meets the promise of `analyse`, by relations written from the paper's sentences. The proofs are in
+-- proofs/Theorems.antt.
 -- Assumes nothing.
 use mathlib.Core.Path.{_≡_}
+use mathlib.Core.Logic.{_⊎_, _↔_}
 use mathlib.Core.List.{List}
 use Prim.Native.Nat.{ℕ, _≤_}
+use lib.ListN.{length, take}
+use Rattle.format.specs.File.{bytes}
 use Rattle.policy.specs.Policy.{Policy}
-use Rattle.rules.specs.Answers.{reading, rules}
-use Rattle.runs.specs.Grant.{Leak}
+use Rattle.rules.specs.Answers.{reading, rules, writing}
+use Rattle.rules.specs.Claims.{Bytes}
+use Rattle.runs.specs.State.{State}
+use Rattle.runs.specs.Step.{Carried}
+use Rattle.runs.specs.Grant.{Who, Which}
 use Rattle.allowed.specs.Allowed.{modelOf}
-use Rattle.starting.specs.Start.{beginning}
-use Rattle.replay.specs.Question.{partsOf, whoOf, whichOf}
-use Rattle.analyser.specs.Answer.{rowsNeeded, told}
-use Rattle.analyser.specs.Never.{Never}
-use Rattle.analyser.specs.declared.Verdict.the-variants as Verdict
+use Rattle.cells.specs.Row.{partsOf, rowStep}
+use Rattle.cells.specs.Leak.{IsLeak}
+use Rattle.live.specs.Lent.{Lent}
+use Rattle.live.specs.declared.Outcome.the-variants as Outcome
+use Rattle.steps.specs.Step.{stepIn}
+use Rattle.steps.specs.Codes.{Codes, Room}
+use Rattle.starting.specs.Start.{started, beginning}
+use Rattle.replay.specs.Asked.{Asked}
+use Rattle.replay.specs.Replay.{replayed}
+use Rattle.replay.specs.Claims.{Enough}
+use Rattle.analyser.specs.Answer.{noVerdict, safeVerdict, leakVerdict, Told, told}
+use Rattle.analyser.specs.Never.{Never, StartCould, StartCouldNot, AsksSomething, RowsEnough, RowsTooFew}
+use Rattle.analyser.specs.Means.{Means}
 
--- [Demand 3]: where the answer is safe, no run of any length grants what is asked
+-- what the answer t with n rows at the front of `after` decides of rules and what is asked of them
+pub record Decides (p : Policy) (file question after : List ℕ) (t : Told) (n : ℕ) (who : Who) (which : Which) (permission : ℕ) : Type 0 where
+  -- the file and the question alone decide: any rows that are enough, whatever they hold, get the same answer
+  pub alone : (other left : List ℕ) (u : Told) (k : ℕ) → Means file question other left u k → RowsEnough p (length other) → u ≡ t
+  -- between two verdicts
+  pub two : (t .verdict ≡ safeVerdict) ⊎ (t .verdict ≡ leakVerdict)
+  -- safe exactly when of every list of steps no step in it grants what is asked
+  pub safe : (t .verdict ≡ safeVerdict) ↔ Never p who which permission
+  -- else leak: each of the rows is carried out and the last is such a grant, and they replay in any cells that are enough, whatever these held
+  pub leak : t .verdict ≡ leakVerdict
+      → IsLeak (modelOf p) (beginning p) who which permission (take n after)
+      × ((sessions items : List ℕ) → Enough p (take n after) (length sessions) (length items)
+      → replayed (reading file) question (take n after) sessions items .outcome ≡ Outcome.Done)
+
+-- [Demand 3]: for every file whose starting sessions their users could have brought about, with every question and row slice accepted beside it
+abbrev pub Demand3 : Type 0
+Demand3 = (file question before after : List ℕ) (t : Told) (n : ℕ) → Means file question before after t n → (p : Policy) → reading file ≡ rules p
+    → StartCould p → (who : Who) (which : Which) (permission : ℕ) → Asked p question who which permission → RowsEnough p (length before)
+    → Decides p file question after t n who which permission
+
+-- where the verdict is safe, no step of any list of steps grants what is asked
 abbrev pub SafeIsNever : Type 0
-SafeIsNever = (file question : List ℕ) (room : ℕ) (p : Policy) → reading file ≡ rules p
-    → told (reading file) question room .verdict ≡ Verdict.Safe → Never p question
+SafeIsNever = (file question : List ℕ) (room : ℕ) (p : Policy) → reading file ≡ rules p → told (reading file) question room .verdict ≡ safeVerdict
+    → (who : Who) (which : Which) (permission : ℕ) → Asked p question who which permission → Never p who which permission
 
--- [Demand 3]: where it is a leak, some run does
-abbrev pub LeakIsReal : Type 0
-LeakIsReal = (file question : List ℕ) (room : ℕ) (p : Policy) → reading file ≡ rules p → told (reading file) question room .verdict ≡ Verdict.Leak
-    → Leak (modelOf p) (beginning p) (whoOf (partsOf question)) (whichOf (partsOf question)) (partsOf question .permission)
+-- [01:When a number is given instead, 9]: exactly when the file is read and some starting session its user could not have brought about
+abbrev pub NineIsExact : Type 0
+NineIsExact = (file question before after : List ℕ) (t : Told) (n : ℕ) → Means file question before after t n
+    → (t .number ≡ 9) ↔ ((p : Policy) × (reading file ≡ rules p) × StartCouldNot p)
 
--- verdict and counts are those of the file and the question alone, whatever rows are lent, if they are enough
-abbrev pub AnswerByFileAndQuestion : Type 0
-AnswerByFileAndQuestion = (file question : List ℕ) (p : Policy) → reading file ≡ rules p → (room more : ℕ) → rowsNeeded p ≤ room → rowsNeeded p ≤ more
-    → told (reading file) question room ≡ told (reading file) question more
+-- [01:When a number is given instead, 10]: exactly when it is none of those before, and the question names what is absent or breaks its layout
+abbrev pub TenIsExact : Type 0
+TenIsExact = (file question before after : List ℕ) (t : Told) (n : ℕ) → Means file question before after t n
+    → (t .number ≡ 10) ↔ ((p : Policy) × (reading file ≡ rules p) × StartCould p × (AsksSomething p question → ⊥))
+
+-- [01:When a number is given instead, 11]: exactly when it is none of those before, and the row slice is too short
+abbrev pub ElevenIsExact : Type 0
+ElevenIsExact = (file question before after : List ℕ) (t : Told) (n : ℕ) → Means file question before after t n
+    → (t .number ≡ 11) ↔ ((p : Policy) × (reading file ≡ rules p) × StartCould p × AsksSomething p question × RowsTooFew p (length before))
+
+-- [Demand 1, "Accepted, and brought to a verdict or a new state: all the others"]
+pub record AcceptedIsJudged : Type 0 where
+  -- a verdict exactly when the file is the writing of some rules, its starting sessions could have been brought about, something is asked, and
+  -- the rows are enough
+  pub verdict : (file question before after : List ℕ) (t : Told) (n : ℕ) → Means file question before after t n → Bytes file
+      → (t .verdict ≡ noVerdict → ⊥) ↔ ((p : Policy) × (writing p ≡ bytes file) × StartCould p × AsksSomething p question × RowsEnough p (length before))
+  -- a start exactly when the file is read and the cells are enough
+  pub start : (file sessions items : List ℕ) → (started (reading file) sessions items .outcome ≡ Outcome.Done)
+      ↔ ((p : Policy) × (reading file ≡ rules p) × (length (p .sessions) ≤ length sessions) × (length (p .items) ≤ length items))
+  -- a step, on cells that code a run's state, exactly when it is laid out as a row, the table permits it, and a number and a cell are left
+  pub step : (file : List ℕ) (p : Policy) → reading file ≡ rules p → (s : Lent) (t : State) → Codes (modelOf p) s t → (row : ℕ)
+      → (stepIn (modelOf p) s row .outcome ≡ Outcome.Done)
+      ↔ ((partsOf row .spare ≡ 0) × ((after : State) × Carried (modelOf p) t (rowStep row) after) × Room s (rowStep row))

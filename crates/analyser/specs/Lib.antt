@@ -1,5 +1,6 @@
 -- in reading order
 pub mod Answer  -- refusal, verdict and counts of a file and a question
 pub mod Decide  -- what deciding comes to, private
-pub mod Never  -- what the answer means of runs
+pub mod Never  -- what demand 3 speaks of, said of runs
+pub mod Means  -- what is promised of an answer
 pub mod Claims  -- what is proved of the answer

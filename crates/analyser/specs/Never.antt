@@ -1,52 +1,61 @@
--- What the answer means of runs, in so many words [Demand 3; 01:Agreement]: safe is never, a leak replays, and the counts are of what stands after
--- some run.
+-- What demand 3 speaks of, said of runs: never; a starting session that its user could have brought about; rows enough for a leak.
 -- Assumes nothing.
-use mathlib.Core.Path.{_≡_}
-use mathlib.Core.List.{List}
-use Prim.Native.Nat.{ℕ, _≤_}
-use lib.ListN.{length, take, drop}
-use Rattle.policy.specs.Policy.{Policy}
-use Rattle.rules.specs.Answers.{reading, rules}
+use mathlib.Core.List.{List, []}
+use Prim.Native.Nat.{ℕ, _+_, _*_, _^_, _≤_, _<_}
+use lib.ListN.{length}
+use Rattle.policy.specs.Policy.{Policy, width}
+use Rattle.lists.specs.Sound.{startingSession}
 use Rattle.runs.specs.Step.{Step}
-use Rattle.runs.specs.Run.{run}
-use Rattle.runs.specs.Grant.{Fits}
-use Rattle.runs.specs.Outcome.{SessionStands, ItemStands}
-use Rattle.verdict.specs.Meaning.{Counts}
+use Rattle.runs.specs.Grant.{Who, Which, NoStepFits}
+use Rattle.runs.specs.Outcome.{SessionStands}
 use Rattle.allowed.specs.Allowed.{modelOf}
-use Rattle.live.specs.declared.Outcome.the-variants as Outcome
 use Rattle.starting.specs.Start.{beginning}
-use Rattle.replay.specs.Question.{partsOf, whoOf, whichOf}
-use Rattle.replay.specs.Replay.{replayed}
-use Rattle.replay.specs.Claims.{Enough}
-use Rattle.analyser.specs.Answer.{rowsNeeded}
-use Rattle.analyser.specs.declared.Answer.{Answer}
-use Rattle.analyser.specs.declared.Verdict.the-variants as Verdict
+use Rattle.replay.specs.Asked.{Asked}
 
--- safe: of all lists of steps, of any length, run from the file's start, no further step grants what is asked
-abbrev pub Never : Policy → List ℕ → Type 0
-Never p question =
-    let q = partsOf question in
-    (steps : List Step) (last : Step) → Fits (modelOf p) (run (modelOf p) (beginning p) steps) (whoOf q) (whichOf q) (q .permission) last → ⊥
+-- [Demand 3]: of every list of steps, of any length, run from the file's start, no step in it grants what is asked
+abbrev pub Never : Policy → Who → Which → ℕ → Type 0
+Never p who which permission = (steps : List Step) → NoStepFits (modelOf p) (beginning p) who which permission steps
 
--- the leak: so many of the rows as the answer says, from the front
-abbrev pub leakOf : Answer → List ℕ → List ℕ
-leakOf a rows = take (a .rows) rows
+-- the same file without its starting sessions
+unfoldable pub withoutSessions : Policy → Policy
+withoutSessions p =
+    let h = p .head in
+    record {
+      head = record { userAttrs = h .userAttrs; sessionAttrs = h .sessionAttrs; itemAttrs = h .itemAttrs; users = h .users; sessions = 0; items = h .items; permissions = h .permissions };
+      lists = p .lists;
+      users = p .users;
+      sessions = [];
+      items = p .items;
+      formulas = p .formulas;
+    }
 
--- the answer a to the question, with the rows before and after
-pub record Means (file question before after : List ℕ) (a : Answer) : Type 0 where
-  -- no row is written unless it is of a leak, and then so many at the front
-  pub rows-none : (a .verdict ≡ Verdict.Leak → ⊥) → (a .rows ≡ 0) × (after ≡ before)
-  pub rows-long : length after ≡ length before
-  pub rows-rest : drop (a .rows) after ≡ drop (a .rows) before
-  pub rows-few : (p : Policy) → reading file ≡ rules p → a .rows ≤ rowsNeeded p
-  -- safe is never
-  pub safe : a .verdict ≡ Verdict.Safe → (p : Policy) → reading file ≡ rules p → Never p question
-  -- a leak replays, in any cells that are enough, whatever they held
-  pub leak : a .verdict ≡ Verdict.Leak → (p : Policy) → reading file ≡ rules p → (sessions items : List ℕ)
-      → Enough p (leakOf a after) (length sessions) (length items)
-      → replayed (reading file) question (leakOf a after) sessions items .outcome ≡ Outcome.Done
-  -- the counts are of what stands after some run
-  pub pairs : ((n : ℕ) → a .verdict ≡ Verdict.Refused n → ⊥) → (p : Policy) → reading file ≡ rules p
-      → Counts (λ (x : ℕ × ℕ). SessionStands (modelOf p) (beginning p) (x .0) (x .1)) (a .pairs)
-  pub values : ((n : ℕ) → a .verdict ≡ Verdict.Refused n → ⊥) → (p : Policy) → reading file ≡ rules p
-      → Counts (ItemStands (modelOf p) (beginning p) (whichOf (partsOf question))) (a .values)
+-- [01:Runs, "A user could have brought a session about when .."]: some run of the same file without its starting sessions has one of user u with
+-- value v open
+abbrev pub CouldBring : Policy → ℕ → ℕ → Type 0
+CouldBring p = SessionStands (modelOf (withoutSessions p)) (beginning (withoutSessions p))
+
+-- every starting session its user could have brought about
+abbrev pub StartCould : Policy → Type 0
+StartCould p = (k : ℕ) → k < length (p .sessions) → CouldBring p (startingSession p k .user) (startingSession p k .value)
+
+-- some starting session its user could not
+abbrev pub StartCouldNot : Policy → Type 0
+StartCouldNot p = (k : ℕ) × (k < length (p .sessions)) × (CouldBring p (startingSession p k .user) (startingSession p k .value) → ⊥)
+
+-- the question asks something of the rules
+abbrev pub AsksSomething : Policy → List ℕ → Type 0
+AsksSomething p question = (who : Who) × (which : Which) × (permission : ℕ) × Asked p question who which permission
+
+-- [01:The question, "the slice needs 2^s + 2^o × (2^s + 1) + 1 rows"]: there are so many
+abbrev pub RowsEnough : Policy → ℕ → Type 0
+RowsEnough p room =
+    let s = width (p .lists .ofSession) in
+    let o = width (p .lists .ofItem) in
+    2 ^ s + 2 ^ o * (2 ^ s + 1) + 1 ≤ room
+
+-- there are fewer
+abbrev pub RowsTooFew : Policy → ℕ → Type 0
+RowsTooFew p room =
+    let s = width (p .lists .ofSession) in
+    let o = width (p .lists .ofItem) in
+    room < 2 ^ s + 2 ^ o * (2 ^ s + 1) + 1

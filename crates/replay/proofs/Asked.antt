@@ -111,7 +111,6 @@ asks-asked p question t =
     let (long, spare, who, which, permission) = parts-asked p question t in
     three question long λ a b c e.
     let parts = ap partsOf e ∙ parts-are a b c in
-    let first : partsOf question .whokind ≡ a / 64 = ap (λ (q : Question). q .whokind) parts in
     record {
       who-kind = partsOf question .whokind;
       who-number = partsOf question .who;
@@ -163,3 +162,18 @@ pub asked-asks : (p : Policy) (question : List ℕ) (who : Who) (which : Which) 
     → (asks p question ≡ true) × (who ≡ whoOf (partsOf question)) × (which ≡ whichOf (partsOf question)) × (permission ≡ partsOf question .permission)
 asked-asks p question who which permission A =
     rw (asked-parts p question who which permission A) (asked-computed p question who which permission A)
+
+-- what holds of the question's parts holds of what is asked
+pub of-asked : (P : Who → Which → ℕ → Type 0) (p : Policy) (question : List ℕ) → P (whoOf (partsOf question)) (whichOf (partsOf question)) (partsOf question .permission)
+    → (who : Who) (which : Which) (permission : ℕ) → Asked p question who which permission → P who which permission
+of-asked P p question x who which permission A =
+    let (_, w, i, k) = asked-asks p question who which permission A in
+    subst (λ (a : Who). P a which permission) (sym w) (subst (λ (b : Which). P (whoOf (partsOf question)) b permission) (sym i)
+    (subst (λ (n : ℕ). P (whoOf (partsOf question)) (whichOf (partsOf question)) n) (sym k) x))
+
+-- what holds of what is asked holds of the question's parts
+pub of-parts : (P : Who → Which → ℕ → Type 0) (p : Policy) (question : List ℕ) (who : Who) (which : Which) (permission : ℕ) → Asked p question who which permission
+    → P who which permission → P (whoOf (partsOf question)) (whichOf (partsOf question)) (partsOf question .permission)
+of-parts P p question who which permission A x =
+    let (_, w, i, k) = asked-asks p question who which permission A in
+    subst (λ (a : Who). P a (whichOf (partsOf question)) (partsOf question .permission)) w (subst (λ (b : Which). P who b (partsOf question .permission)) i (subst (P who which) k x))

@@ -1,8 +1,8 @@
 -- Enough cells and numbers for rows. In order: what a carried out step adds to the counts; what is enough for rows has room for the first and is
 -- enough for the others; starting leaves what is enough for the rows of a leak.
 use mathlib.Core.Path.{_≡_, refl, ap, _∙_}
-use mathlib.Core.Bool.{cond}
-use mathlib.Core.List.{List, _∷_}
+use mathlib.Core.Bool.{Bool, true, false, cond}
+use mathlib.Core.List.{List, [], _∷_}
 use Prim.Native.Nat.{ℕ, _+_, _≤_}
 use native.Mathlib.Omega.{arith}
 use borrow.Author.Tests.{le-leb, eq-eqb}
@@ -32,6 +32,14 @@ one k n = cond (eqb k n) 1 0
 one-is : (k n : ℕ) → k ≡ n → one k n ≡ 1
 unfolding one
 one-is k n e = rw (eq-eqb k n e) refl
+
+one-few : (k n : ℕ) → one k n ≤ 1
+unfolding one
+one-few k n = go (eqb k n)
+  where
+    go : (b : Bool) → cond b 1 0 ≤ 1
+    go true = omega arith
+    go false = omega arith
 
 -- a step adds a session where it opens one, an item where it makes one, and nothing else
 record Adds (t : State) (k : ℕ) (after : State) : Type 0 where
@@ -94,6 +102,12 @@ module _ (m : Model) (s : Lent) (t : State) (row : ℕ) (rows : List ℕ) (a : A
         session-numbers = omega (arith, a .session-numbers, x .sessions);
         item-numbers = omega (arith, a .item-numbers, x .items);
       }
+
+-- as many rows are of a kind as there are rows, at most
+pub kind-few : (k : ℕ) (rows : List ℕ) → ofKind k rows ≤ length rows
+unfolding ofKind
+kind-few k [] = omega arith
+kind-few k (row ∷ rows) = let e = kind-more k row rows in omega (arith, one-few (rowStep row .kind) k, kind-few k rows)
 
 -- starting
 

@@ -36,7 +36,7 @@ use Rattle.replay.specs.Rows.{Ran, ranAll, further, rowsIn}
 use Rattle.replay.specs.Replay.{isOf, whoFits, whichFits, stepFits, lastFits, judged, played, replayed}
 use Rattle.replay.specs.Claims.{Enough, NumbersLeft, AskedLeak, ReplayIsTheRun}
 use Rattle.replay.specs.declared.question.Question.{Question}
-use Rattle.replay.proofs.Asked.{asks-asked, asked-asks}
+use Rattle.replay.proofs.Asked.{asks-asked, asked-asks, of-parts}
 use Rattle.replay.proofs.Laws.{none-fits, last-is, replay-shown}
 use Rattle.replay.proofs.Room.{Ample, ample-room, ample-after, enough-starts, enough-ample}
 
@@ -288,10 +288,8 @@ module _ (file : List ℕ) (p : Policy) (read : reading file ≡ rules p) (quest
   pub is-complete : AskedLeak p question rows → Enough p rows (length sessions) (length items) → NumbersLeft p rows
       → replayed (reading file) question rows sessions items .outcome ≡ Outcome.Done
   is-complete l =
-      let (a, w, i, k) = asked-asks p question (l .who) (l .which) (l .permission) (l .asked) in
-      complete a (subst (λ (x : Who). IsLeak (modelOf p) (beginning p) x (whichOf q) (q .permission) rows) w
-      (subst (λ (x : Which). IsLeak (modelOf p) (beginning p) (l .who) x (q .permission) rows) i
-      (subst (λ (x : ℕ). IsLeak (modelOf p) (beginning p) (l .who) (l .which) x rows) k (l .leak))))
+      complete (asked-asks p question (l .who) (l .which) (l .permission) (l .asked) .0)
+      (of-parts (λ who which permission. IsLeak (modelOf p) (beginning p) who which permission rows) p question (l .who) (l .which) (l .permission) (l .asked) (l .leak))
 
 pub is-the-run : ReplayIsTheRun
 is-the-run = record { sound = is-sound; complete = is-complete }

@@ -1,7 +1,7 @@
 -- The computed sets are the closures of runs, and the verdict is whether they hold a granted pair.
 -- In order: the rules' tests; values of sessions; starting sessions; some session; values of items; one that is asked about; the pair.
 use mathlib.Core.Path.{_≡_, refl, sym, _∙_, subst}
-use mathlib.Core.Bool.{Bool, true, _&&_}
+use mathlib.Core.Bool.{Bool, true, false, _&&_}
 use mathlib.Core.Logic.{_⊎_, inl, inr, _↔_}
 use mathlib.Core.List.{List, [], _∷_}
 use Prim.Native.Nat.{ℕ, zero, suc, _<_}
@@ -103,6 +103,23 @@ module _ (m : Model) (start : State) (n k : ℕ) (w : Below m start n k) where
           let q : h ≡ v = cc in
           subst (λ (y : ℕ). Reach m u y) q (subst (λ (y : ℕ). Reach m y h) p (reached-is a h .0 t))
       rest t r (suc j) u v e = r j u v e
+
+  unbrought-list : (l : List Session) → allBrought m n l ≡ false → (j : ℕ) × (u : ℕ) × (v : ℕ) × (getD l j closed ≡ opened u v) × (Reach m u v → ⊥)
+  unfolding allBrought
+  unbrought-list [] t = not-both t refl
+  unbrought-list (closed ∷ l) t = let (j, u, v, e, r) = unbrought-list l t in (suc j, u, v, e, r)
+  unbrought-list (opened a h ∷ l) t = go (inTable (reached m n a) h) refl t (unbrought-list l)
+    where
+      go : (b : Bool) → inTable (reached m n a) h ≡ b → b && allBrought m n l ≡ false
+          → (allBrought m n l ≡ false → (j : ℕ) × (u : ℕ) × (v : ℕ) × (getD l j closed ≡ opened u v) × (Reach m u v → ⊥))
+          → (j : ℕ) × (u : ℕ) × (v : ℕ) × (getD (opened a h ∷ l) j closed ≡ opened u v) × (Reach m u v → ⊥)
+      go false e t k = (0, a, h, refl, λ r. not-both e (reached-is a h .1 r))
+      go true e t k = let (j, u, v, x, r) = k t in (suc j, u, v, x, r)
+
+  -- where not every starting session could have been brought about, one could not
+  pub unbrought-is : allBrought m n (start .sessions) ≡ false → (j : ℕ) × (u : ℕ) × (v : ℕ) × (sessionAt start j ≡ opened u v) × (Reach m u v → ⊥)
+  unfolding sessionAt
+  unbrought-is = unbrought-list (start .sessions)
 
   pub brought-is : (allBrought m n (start .sessions) ≡ true) ↔ Brought m start
   unfolding sessionAt

@@ -9,8 +9,6 @@ use borrow.Author.Tests.{leb-true}
 use lib.Dec.{leb}
 use Rattle.runs.specs.State.{Session, closed, opened}
 use Rattle.live.specs.Lent.{Lent, After, refused, done, tested, ofSession, ofItem}
-use Rattle.live.specs.declared.Outcome.{Outcome}
-use Rattle.live.specs.declared.Outcome.the-variants as Outcome
 
 -- every test of a row holds
 abbrev pub AllHold : List (Bool × ℕ) → Type 0
@@ -30,23 +28,23 @@ and-right : (a b : Bool) → (a && b) ≡ true → b ≡ true
 and-right true b e = e
 and-right false b e = absurd (let z : _≡_ {A = ℕ} 0 1 = cc in omega arith)
 
-not-both : {C : Type 0} {n : ℕ} → Path Outcome (Outcome.Refused n) Outcome.Done → C
-not-both e = absurd (let z : _≡_ {A = ℕ} 0 1 = cc in omega arith)
+pub some-not-none : {C : Type 0} {n : ℕ} → Path (Option ℕ) (some n) none → C
+some-not-none e = absurd (let z : _≡_ {A = ℕ} 0 1 = cc in omega arith)
 
 -- a number is not done
-pub refused-not-done : {C : Type 0} (n : ℕ) (s : Lent) → refused n s .outcome ≡ Outcome.Done → C
+pub refused-not-done : {C : Type 0} (n : ℕ) (s : Lent) → refused n s .refusal ≡ none → C
 unfolding refused
-refused-not-done n s e = not-both e
+refused-not-done n s e = some-not-none e
 
-pub done-outcome : (s : Lent) → done s .outcome ≡ Outcome.Done
+pub done-refusal : (s : Lent) → done s .refusal ≡ none
 unfolding done
-done-outcome s = refl
+done-refusal s = refl
 
 pub done-lent : (s : Lent) → done s .lent ≡ s
 unfolding done
 done-lent s = refl
 
-pub tested-done : {C : Type 0} (l : List (Bool × ℕ)) (s : Lent) (a : After) → tested l s a .outcome ≡ Outcome.Done → (AllHold l → tested l s a ≡ a → C) → C
+pub tested-done : {C : Type 0} (l : List (Bool × ℕ)) (s : Lent) (a : After) → tested l s a .refusal ≡ none → (AllHold l → tested l s a ≡ a → C) → C
 unfolding tested
 tested-done [] s a e k = k tt refl
 tested-done ((true, n) ∷ l) s a e k = tested-done l s a e (λ h q. k (refl, h) q)
@@ -58,8 +56,8 @@ tested-all [] s a h = refl
 tested-all ((true, n) ∷ l) s a h = tested-all l s a (h .1)
 tested-all ((false, n) ∷ l) s a h = absurd (let z : _≡_ {A = ℕ} 0 1 = let e = h .0 in cc in omega arith)
 
-pub session-done : {C : Type 0} (x : Session) (s : Lent) (f : ℕ → ℕ → After) → ofSession x s f .outcome ≡ Outcome.Done
-    → ((u v : ℕ) → x ≡ opened u v → f u v .outcome ≡ Outcome.Done → ofSession x s f ≡ f u v → C) → C
+pub session-done : {C : Type 0} (x : Session) (s : Lent) (f : ℕ → ℕ → After) → ofSession x s f .refusal ≡ none
+    → ((u v : ℕ) → x ≡ opened u v → f u v .refusal ≡ none → ofSession x s f ≡ f u v → C) → C
 unfolding ofSession
 session-done closed s f e k = refused-not-done 13 s e
 session-done (opened u v) s f e k = k u v refl e refl
@@ -68,8 +66,8 @@ pub session-is : (x : Session) (s : Lent) (f : ℕ → ℕ → After) (u v : ℕ
 unfolding ofSession
 session-is x s f u v e = rw e refl
 
-pub item-done : {C : Type 0} (x : Option ℕ) (s : Lent) (f : ℕ → After) → ofItem x s f .outcome ≡ Outcome.Done
-    → ((o : ℕ) → x ≡ some o → f o .outcome ≡ Outcome.Done → ofItem x s f ≡ f o → C) → C
+pub item-done : {C : Type 0} (x : Option ℕ) (s : Lent) (f : ℕ → After) → ofItem x s f .refusal ≡ none
+    → ((o : ℕ) → x ≡ some o → f o .refusal ≡ none → ofItem x s f ≡ f o → C) → C
 unfolding ofItem
 item-done none s f e k = refused-not-done 13 s e
 item-done (some o) s f e k = k o refl e refl
@@ -80,7 +78,7 @@ item-is x s f o e = rw e refl
 
 -- where a number is given it is a step's, and all is as it was
 abbrev pub Kept : Lent → After → Type 0
-Kept s a = (n : ℕ) → a .outcome ≡ Outcome.Refused n → (a .lent ≡ s) × (12 ≤ n) × (n ≤ 16)
+Kept s a = (n : ℕ) → a .refusal ≡ some n → (a .lent ≡ s) × (12 ≤ n) × (n ≤ 16)
 
 pub kept-refused : (s : Lent) (n : ℕ) → 12 ≤ n → n ≤ 16 → Kept s (refused n s)
 unfolding refused
@@ -88,7 +86,7 @@ kept-refused s n l h k e = let q : n ≡ k = cc in (refl, omega arith, omega ari
 
 pub kept-done : (s t : Lent) → Kept s (done t)
 unfolding done
-kept-done s t n e = not-both (sym e)
+kept-done s t n e = some-not-none (sym e)
 
 pub kept-tested : (l : List (Bool × ℕ)) (s : Lent) (a : After) → stepNumbers l ≡ true → Kept s a → Kept s (tested l s a)
 unfolding tested

@@ -1,4 +1,5 @@
--- The live state [01:Steps, "The live state is two lent slices of 64-bit cells"], and what a call leaves: its outcome and the state after it.
+-- The live state [01:Steps, "The live state is two lent slices of 64-bit cells"], and what a call leaves: the number that is given instead, if one is,
+-- and the state after it.
 -- Assumes nothing.
 use mathlib.Core.Bool.{Bool, true, false, _&&_}
 use mathlib.Core.List.{List, [], _∷_}
@@ -18,14 +19,19 @@ pub record Lent : Type 0 where
   pub items : List ℕ
   pub next : Next
 
--- the paper's number of an outcome, 0 for carried out
-unfoldable pub outcomeNumber : Outcome → ℕ
-outcomeNumber Outcome.Done = 0
-outcomeNumber (Outcome.Refused n) = n
+-- [01:How each place should look, "Where an answer is an enum"]: the number that an outcome gives; none where the call is carried out
+abbrev pub refusalOf : Outcome → Option ℕ
+refusalOf Outcome.Done = none
+refusalOf (Outcome.Refused n) = some n
 
--- an outcome, and what then stands
+-- the same for hosts, as one number: 0 for none
+unfoldable pub hostNumber : Option ℕ → ℕ
+hostNumber none = 0
+hostNumber (some n) = n
+
+-- the number that is given instead, if one is, and what then stands
 pub record After : Type 0 where
-  pub outcome : Outcome
+  pub refusal : Option ℕ
   pub lent : Lent
 
 -- two slices and the next numbers as a live state
@@ -34,15 +40,15 @@ lentAs sessions items next = record { sessions = sessions; items = items; next =
 
 -- an outcome, the next numbers and what two slices hold, as what a call leaves
 abbrev pub leaves : Outcome → Next → List ℕ → List ℕ → After
-leaves outcome next sessions items = record { outcome = outcome; lent = lentAs sessions items next }
+leaves outcome next sessions items = record { refusal = refusalOf outcome; lent = lentAs sessions items next }
 
 -- a number is given, and nothing changes
 unfoldable pub refused : ℕ → Lent → After
-refused n s = record { outcome = Outcome.Refused n; lent = s }
+refused n s = record { refusal = some n; lent = s }
 
 -- carried out
 unfoldable pub done : Lent → After
-done s = record { outcome = Outcome.Done; lent = s }
+done s = record { refusal = none; lent = s }
 
 -- the first test that fails gives its number; where all hold, what follows
 unfoldable pub tested : List (Bool × ℕ) → Lent → After → After

@@ -1,6 +1,6 @@
 // The live state's next numbers, and what a call on it comes to. The state itself, and what a call leaves, are in specs/Lent.
 ghost use mathlib.Core.Path.{_≡_};
-ghost use Rattle.live.specs.Lent.{outcomeNumber};
+ghost use Rattle.live.specs.Lent.{refusalOf, hostNumber};
 
 // The next session number and the next item number.
 pub struct Next {
@@ -32,7 +32,7 @@ pub fn refused(next: Next, number: u8) -> Stepped
 
 // The paper's number of an outcome, 0 for carried out.
 pub fn number_of(outcome: Outcome) -> u32
-    ensures { λ r. ⌜ r ≡ outcomeNumber outcome ⌝ }
+    ensures { λ r. ⌜ r ≡ hostNumber (refusalOf outcome) ⌝ }
 {
     match outcome {
         Outcome::Done => 0,

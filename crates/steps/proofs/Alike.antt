@@ -11,20 +11,20 @@ use Rattle.runs.specs.State.{Session, closed, opened}
 use Rattle.runs.specs.Step.{Step}
 use Rattle.live.specs.Lent.{Lent, After, refused, done, tested, ofSession, ofItem, allGiven, left}
 use Rattle.live.specs.declared.Next.{Next}
-use Rattle.live.proofs.Outcomes.{done-outcome}
+use Rattle.live.proofs.Outcomes.{done-refusal}
 use Rattle.steps.specs.Step.{opening, closing, changing, making, modifying, accessing, byKind, stepIn}
 use Rattle.steps.specs.Codes.{Reads}
 
 -- the same outcome
 abbrev Same : After → After → Type 0
-Same a b = a .outcome ≡ b .outcome
+Same a b = a .refusal ≡ b .refusal
 
 same-refused : (n : ℕ) (s t : Lent) → Same (refused n s) (refused n t)
 unfolding refused
 same-refused n s t = refl
 
 same-done : (s t : Lent) → Same (done s) (done t)
-same-done s t = done-outcome s ∙ sym (done-outcome t)
+same-done s t = done-refusal s ∙ sym (done-refusal t)
 
 module _ (s t : Lent) where
   same-tests : (l : List (Bool × ℕ)) (a b : After) → Same a b → Same (tested l s a) (tested l t b)
@@ -34,7 +34,7 @@ module _ (s t : Lent) where
   same-tests ((false, n) ∷ l) a b e = same-refused n s t
 
   same-tested : (l k : List (Bool × ℕ)) (a b : After) → l ≡ k → Same a b → Same (tested l s a) (tested k t b)
-  same-tested l k a b q e = ap (λ (x : List (Bool × ℕ)). tested x s a .outcome) q ∙ same-tests k a b e
+  same-tested l k a b q e = ap (λ (x : List (Bool × ℕ)). tested x s a .refusal) q ∙ same-tests k a b e
 
   same-opened : (x : Session) (f g : ℕ → ℕ → After) → ((u v : ℕ) → Same (f u v) (g u v)) → Same (ofSession x s f) (ofSession x t g)
   unfolding ofSession
@@ -42,7 +42,7 @@ module _ (s t : Lent) where
   same-opened (opened u v) f g e = e u v
 
   same-session : (x y : Session) (f g : ℕ → ℕ → After) → x ≡ y → ((u v : ℕ) → Same (f u v) (g u v)) → Same (ofSession x s f) (ofSession y t g)
-  same-session x y f g q e = ap (λ (z : Session). ofSession z s f .outcome) q ∙ same-opened y f g e
+  same-session x y f g q e = ap (λ (z : Session). ofSession z s f .refusal) q ∙ same-opened y f g e
 
   same-there : (x : Option ℕ) (f g : ℕ → After) → ((o : ℕ) → Same (f o) (g o)) → Same (ofItem x s f) (ofItem x t g)
   unfolding ofItem
@@ -50,7 +50,7 @@ module _ (s t : Lent) where
   same-there (some o) f g e = e o
 
   same-item : (x y : Option ℕ) (f g : ℕ → After) → x ≡ y → ((o : ℕ) → Same (f o) (g o)) → Same (ofItem x s f) (ofItem y t g)
-  same-item x y f g q e = ap (λ (z : Option ℕ). ofItem z s f .outcome) q ∙ same-there y f g e
+  same-item x y f g q e = ap (λ (z : Option ℕ). ofItem z s f .refusal) q ∙ same-there y f g e
 
 -- a cell is left or not by the number of cells
 same-left : (c d : List ℕ) (n k : ℕ) → length c ≡ length d → n ≡ k → left c n ≡ left d k
@@ -95,6 +95,6 @@ module _ (m : Model) (s t : Lent) (r : Reads m s t) (p : Step) where
       same-session s t _ _ _ _ (r .each-session (p .actor)) λ u v. same-item s t _ _ _ _ (r .each-item (p .target)) λ o. same-tests s t _ _ _ (same-done _ _)
   same-kind (suc (suc (suc (suc (suc (suc (suc k))))))) = same-refused 12 s t
 
-pub same-step : (m : Model) (s t : Lent) → Reads m s t → (row : ℕ) → stepIn m s row .outcome ≡ stepIn m t row .outcome
+pub same-step : (m : Model) (s t : Lent) → Reads m s t → (row : ℕ) → stepIn m s row .refusal ≡ stepIn m t row .refusal
 unfolding stepIn
 same-step m s t r row = same-tests s t _ _ _ (same-kind m s t r _ _)

@@ -1,13 +1,13 @@
 -- Numbers count up. In order: a step never lowers the next numbers; rows never do; a number that is given is the next one, and then the next is greater.
 use mathlib.Core.Path.{_≡_, sym, ap, _∙_}
 use mathlib.Core.List.{List, [], _∷_}
+use mathlib.Core.Option.{none}
 use Prim.Native.Nat.{ℕ, _+_, _≤_}
 use native.Mathlib.Omega.{arith}
 use Rattle.runs.specs.Model.{Model}
 use Rattle.runs.specs.Step.{Step}
 use Rattle.cells.specs.Row.{partsOf, stepOf}
 use Rattle.live.specs.Lent.{Lent, After, done}
-use Rattle.live.specs.declared.Outcome.the-variants as Outcome
 use Rattle.live.proofs.Outcomes.{tested-done, session-done}
 use Rattle.steps.specs.Step.{withSession, withItem, sessionGiven, itemGiven, opening, making, byKind, stepIn, stepsIn}
 use Rattle.steps.specs.Claims.{GivesSession, GivesItem, NumbersCountUp}
@@ -50,13 +50,13 @@ record Given (next number after : ℕ) : Type 0 where
   raised : after ≡ next + 1
 
 module _ (m : Model) (s : Lent) (p : Step) where
-  opening-given : opening m s p .outcome ≡ Outcome.Done → Given (s .next .session) (p .target) (opening m s p .lent .next .session)
+  opening-given : opening m s p .refusal ≡ none → Given (s .next .session) (p .target) (opening m s p .lent .next .session)
   unfolding opening done sessionGiven withSession
   opening-given e =
       tested-done _ s _ e λ h q.
       record { here = target-next _ _ (s .sessions) (h .1 .1 .1 .0) (h .1 .0); raised = ap (λ (a : After). a .lent .next .session) q }
 
-  making-given : making m s p .outcome ≡ Outcome.Done → Given (s .next .item) (p .target) (making m s p .lent .next .item)
+  making-given : making m s p .refusal ≡ none → Given (s .next .item) (p .target) (making m s p .lent .next .item)
   unfolding making done itemGiven withItem
   making-given e =
       session-done _ s _ e λ u v o f r.
@@ -65,7 +65,7 @@ module _ (m : Model) (s : Lent) (p : Step) where
 
 module _ (m : Model) (s : Lent) (row : ℕ) where
   -- what is carried out is the step of its kind
-  of-kind : {C : Type 0} (k : ℕ) → partsOf row .kind ≡ k → stepIn m s row .outcome ≡ Outcome.Done
+  of-kind : {C : Type 0} (k : ℕ) → partsOf row .kind ≡ k → stepIn m s row .refusal ≡ none
       → (stepIn m s row ≡ byKind m s (stepOf (partsOf row)) k → C) → C
   unfolding stepIn stepOf
   of-kind k e d f = tested-done _ s _ d λ h q. f (q ∙ ap (byKind m s (stepOf (partsOf row))) e)
@@ -74,14 +74,14 @@ module _ (m : Model) (s : Lent) (row : ℕ) where
   unfolding byKind stepOf
   session-given k g =
       of-kind 1 (g .kind) (g .done) λ q.
-      let x = opening-given m s (stepOf (partsOf row)) (sym (ap (λ (a : After). a .outcome) q) ∙ g .done) in
+      let x = opening-given m s (stepOf (partsOf row)) (sym (ap (λ (a : After). a .refusal) q) ∙ g .done) in
       record { here = sym (g .number) ∙ x .here; raised = ap (λ (a : After). a .lent .next .session) q ∙ x .raised }
 
   item-given : (k : ℕ) → GivesItem m s row k → Given (s .next .item) k (stepIn m s row .lent .next .item)
   unfolding byKind stepOf
   item-given k g =
       of-kind 4 (g .kind) (g .done) λ q.
-      let x = making-given m s (stepOf (partsOf row)) (sym (ap (λ (a : After). a .outcome) q) ∙ g .done) in
+      let x = making-given m s (stepOf (partsOf row)) (sym (ap (λ (a : After). a .refusal) q) ∙ g .done) in
       record { here = sym (g .number) ∙ x .here; raised = ap (λ (a : After). a .lent .next .item) q ∙ x .raised }
 
 pub count-up : NumbersCountUp

@@ -120,9 +120,9 @@ module _ (r : Rules) (row : Row) (sessions items : List ℕ) (next : Next) (g : 
 
   -- it is carried out
   pub carries : {after s : Lent} → after ≡ s → g (modelIn r) (lentAs sessions items next) (rowIn row) ≡ done s
-      → record { outcome = Outcome.Done; lent = after } ≡ g (modelOf (policyOf r)) (lentAs sessions items next) (stepOf row)
+      → record { refusal = none; lent = after } ≡ g (modelOf (policyOf r)) (lentAs sessions items next) (stepOf row)
   unfolding done
-  carries e h = ap (λ (y : Lent). record { outcome = Outcome.Done; lent = y }) e ∙ sym (in-memory ∙ h)
+  carries e h = ap (λ (y : Lent). record { refusal = none; lent = y }) e ∙ sym (in-memory ∙ h)
 
 -- a row's step by its kind
 

@@ -3,7 +3,7 @@
 use mathlib.Core.Path.{_≡_, refl, sym, ap, _∙_, subst}
 use mathlib.Core.Bool.{Bool, true, false, _||_}
 use mathlib.Core.List.{List, [], _∷_, _++_}
-use mathlib.Core.Option.{some}
+use mathlib.Core.Option.{none, some}
 use Prim.Native.Nat.{ℕ, zero, suc, _+_, _<_}
 use native.Mathlib.Omega.{arith}
 use borrow.Author.Tests.{eqb-true, ltb-true, eq-eqb, lt-ltb, lt-leb}
@@ -17,9 +17,7 @@ use Rattle.cells.specs.Row.{partsOf, stepOf}
 use Rattle.cells.specs.Cell.{openCell}
 use Rattle.cells.proofs.Laws.{item-reads}
 use Rattle.live.specs.Lent.{Lent, After, refused, done, allGiven, numbers, left}
-use Rattle.live.specs.declared.Outcome.{Outcome}
-use Rattle.live.specs.declared.Outcome.the-variants as Outcome
-use Rattle.live.proofs.Outcomes.{refused-not-done, done-outcome, done-lent, tested-done, tested-all, session-done, session-is, item-done, item-is}
+use Rattle.live.proofs.Outcomes.{refused-not-done, done-refusal, done-lent, tested-done, tested-all, session-done, session-is, item-done, item-is}
 use Rattle.steps.specs.Step.{sessionNow, itemNow, withSession, opening, closing, changing, making, modifying, accessing, byKind, stepIn}
 use Rattle.steps.specs.Codes.{Bytes, Codes, Room}
 use Rattle.steps.specs.Claims.{TableStep}
@@ -56,7 +54,7 @@ module _ (m : Model) (bytes : Bytes m) (s : Lent) (t : State) (c : Codes m s t) 
   room-other : (p .kind ≡ 1 → ⊥) → (p .kind ≡ 4 → ⊥) → Room s p
   room-other a b = record { session = λ e. absurd (a e); item = λ e. absurd (b e) }
 
-  opening-happens : p .kind ≡ 1 → opening m s p .outcome ≡ Outcome.Done → Happens m s t p (opening m s p)
+  opening-happens : p .kind ≡ 1 → opening m s p .refusal ≡ none → Happens m s t p (opening m s p)
   unfolding opening
   opening-happens k e =
       tested-done _ s _ e λ h q.
@@ -78,11 +76,11 @@ module _ (m : Model) (bytes : Bytes m) (s : Lent) (t : State) (c : Codes m s t) 
         codes = codes-done m _ _ _ q (codes-opened m bytes s t c (p .actor) (p .value) user (h .1 .1 .0) l);
       }
 
-  closing-happens : p .kind ≡ 2 → closing m s p .outcome ≡ Outcome.Done → Happens m s t p (closing m s p)
+  closing-happens : p .kind ≡ 2 → closing m s p .refusal ≡ none → Happens m s t p (closing m s p)
   unfolding closing
   closing-happens k e =
       tested-done _ s _ e λ h q.
-      session-done _ s _ (subst (λ (a : After). a .outcome ≡ Outcome.Done) q e) λ u v o f r.
+      session-done _ s _ (subst (λ (a : After). a .refusal ≡ none) q e) λ u v o f r.
       tested-done _ s _ f λ g d.
       let a : u ≡ p .actor = sym (eqb-true _ _ (g .0)) in
       let owner : sessionAt t (p .target) ≡ opened (p .actor) v = sym (c .each-session (p .target)) ∙ o ∙ ap (λ (x : ℕ). opened x v) a in
@@ -93,7 +91,7 @@ module _ (m : Model) (bytes : Bytes m) (s : Lent) (t : State) (c : Codes m s t) 
         codes = codes-done m _ _ _ (q ∙ r ∙ d) (codes-closed m bytes s t c (p .target) (p .actor) v owner);
       }
 
-  changing-happens : p .kind ≡ 3 → changing m s p .outcome ≡ Outcome.Done → Happens m s t p (changing m s p)
+  changing-happens : p .kind ≡ 3 → changing m s p .refusal ≡ none → Happens m s t p (changing m s p)
   unfolding changing
   changing-happens k e =
       session-done _ s _ e λ u v o f r.
@@ -118,7 +116,7 @@ module _ (m : Model) (bytes : Bytes m) (s : Lent) (t : State) (c : Codes m s t) 
             (codes-changed m bytes s t c (p .target) (p .actor) v (p .value) owner (g .1 .0));
       }
 
-  making-happens : p .kind ≡ 4 → making m s p .outcome ≡ Outcome.Done → Happens m s t p (making m s p)
+  making-happens : p .kind ≡ 4 → making m s p .refusal ≡ none → Happens m s t p (making m s p)
   unfolding making
   making-happens k e =
       session-done _ s _ e λ u v o f r.
@@ -150,7 +148,7 @@ module _ (m : Model) (bytes : Bytes m) (s : Lent) (t : State) (c : Codes m s t) 
       let q : some o ≡ some (valueAt t (p .target)) = sym e ∙ c .each-item (p .target) h in
       (h, let r : o ≡ valueAt t (p .target) = cc in r)
 
-  modifying-happens : p .kind ≡ 5 → modifying m s p .outcome ≡ Outcome.Done → Happens m s t p (modifying m s p)
+  modifying-happens : p .kind ≡ 5 → modifying m s p .refusal ≡ none → Happens m s t p (modifying m s p)
   unfolding modifying
   modifying-happens k e =
       session-done _ s _ e λ u v a f r.
@@ -174,7 +172,7 @@ module _ (m : Model) (bytes : Bytes m) (s : Lent) (t : State) (c : Codes m s t) 
         codes = codes-done m _ _ _ (r ∙ w ∙ d) (codes-modified m bytes s t c (p .target) (p .value) (item-read o b .0) (g .0));
       }
 
-  accessing-happens : p .kind ≡ 6 → accessing m s p .outcome ≡ Outcome.Done → Happens m s t p (accessing m s p)
+  accessing-happens : p .kind ≡ 6 → accessing m s p .refusal ≡ none → Happens m s t p (accessing m s p)
   unfolding accessing
   accessing-happens k e =
       session-done _ s _ e λ u v a f r.
@@ -198,7 +196,7 @@ module _ (m : Model) (bytes : Bytes m) (s : Lent) (t : State) (c : Codes m s t) 
         codes = codes-done m _ _ _ (r ∙ w ∙ d) c;
       }
 
-  kind-happens : (k : ℕ) → p .kind ≡ k → byKind m s p k .outcome ≡ Outcome.Done → Happens m s t p (byKind m s p k)
+  kind-happens : (k : ℕ) → p .kind ≡ k → byKind m s p k .refusal ≡ none → Happens m s t p (byKind m s p k)
   unfolding byKind
   kind-happens zero k e = refused-not-done 12 s e
   kind-happens (suc zero) k e = opening-happens k e
@@ -210,57 +208,57 @@ module _ (m : Model) (bytes : Bytes m) (s : Lent) (t : State) (c : Codes m s t) 
   kind-happens (suc (suc (suc (suc (suc (suc (suc n))))))) k e = refused-not-done 12 s e
 
   -- a step of a kind
-  kind-is : (k : ℕ) (a : After) → p .kind ≡ k → byKind m s p k ≡ a → a .outcome ≡ Outcome.Done → byKind m s p (p .kind) .outcome ≡ Outcome.Done
-  kind-is k a e q d = ap (λ (n : ℕ). byKind m s p n .outcome) e ∙ ap (λ (x : After). x .outcome) q ∙ d
+  kind-is : (k : ℕ) (a : After) → p .kind ≡ k → byKind m s p k ≡ a → a .refusal ≡ none → byKind m s p (p .kind) .refusal ≡ none
+  kind-is k a e q d = ap (λ (n : ℕ). byKind m s p n .refusal) e ∙ ap (λ (x : After). x .refusal) q ∙ d
 
   there-is : (k u v : ℕ) → sessionAt t k ≡ opened u v → sessionNow m s k ≡ opened u v
   there-is k u v e = c .each-session k ∙ e
 
-  pub carried-done : (after : State) → Room s p → Carried m t p after → byKind m s p (p .kind) .outcome ≡ Outcome.Done
+  pub carried-done : (after : State) → Room s p → Carried m t p after → byKind m s p (p .kind) .refusal ≡ none
   unfolding byKind opening closing changing making modifying accessing
   carried-done after r (opens h) =
       kind-is 1 _ (h .kind)
       (tested-all _ s _
       (lt-ltb _ _ (h .user), (next-target _ _ (h .next ∙ sym (c .session-count)), (h .listed, (r .session (h .kind), (h .allowed, tt))))))
-      (done-outcome _)
+      (done-refusal _)
   carried-done after r (closes h) =
       kind-is 2 _ (h .kind)
       (tested-all _ s _ (eq-eqb _ _ (h .nothing), tt) ∙ session-is _ s _ _ _ (there-is _ _ _ (h .owner)) ∙ tested-all _ s _ (eq-eqb (p .actor) _ refl, tt))
-      (done-outcome _)
+      (done-refusal _)
   carried-done after r (changes h) =
       kind-is 3 _ (h .kind)
       (session-is _ s _ _ _ (there-is _ _ _ (h .owner)) ∙ tested-all _ s _ (eq-eqb (p .actor) _ refl, (h .listed, (h .allowed, tt))))
-      (done-outcome _)
+      (done-refusal _)
   carried-done after r (makes h) =
       kind-is 4 _ (h .kind)
       (session-is _ s _ _ _ (there-is _ _ _ (h .actor))
       ∙ tested-all _ s _ (next-target _ _ (h .next ∙ sym (c .item-count)), (h .listed, (r .item (h .kind), (h .allowed, tt)))))
-      (done-outcome _)
+      (done-refusal _)
   carried-done after r (modifies h) =
       kind-is 5 _ (h .kind)
       (session-is _ s _ _ _ (there-is _ _ _ (h .actor)) ∙ item-is _ s _ _ (c .each-item (p .target) (h .there)) ∙ tested-all _ s _ (h .listed, (h .allowed, tt)))
-      (done-outcome _)
+      (done-refusal _)
   carried-done after r (grants h) =
       kind-is 6 _ (h .kind)
       (session-is _ s _ _ _ (there-is _ _ _ (h .actor))
       ∙ item-is _ s _ _ (c .each-item (p .target) (h .there))
       ∙ tested-all _ s _ (lt-ltb _ _ (h .permission), (h .allowed, tt)))
-      (done-outcome _)
+      (done-refusal _)
 
 module _ (m : Model) (bytes : Bytes m) (s : Lent) (t : State) (c : Codes m s t) (row : ℕ) where
   abbrev step : Step
   step = stepOf (partsOf row)
 
-  row-happens : {C : Type 0} → stepIn m s row .outcome ≡ Outcome.Done → (partsOf row .spare ≡ 0 → Happens m s t step (stepIn m s row) → C) → C
+  row-happens : {C : Type 0} → stepIn m s row .refusal ≡ none → (partsOf row .spare ≡ 0 → Happens m s t step (stepIn m s row) → C) → C
   unfolding stepIn
   row-happens e k =
       tested-done _ s _ e λ h q.
-      let d : byKind m s step (step .kind) .outcome ≡ Outcome.Done = sym (ap (λ (a : After). a .outcome) q) ∙ e in
+      let d : byKind m s step (step .kind) .refusal ≡ none = sym (ap (λ (a : After). a .refusal) q) ∙ e in
       k (eqb-true _ _ (h .0)) (subst (λ (a : After). Happens m s t step a) (sym q) (kind-happens m bytes s t c step (step .kind) refl d))
 
-  row-done : (after : State) → partsOf row .spare ≡ 0 → Room s step → Carried m t step after → stepIn m s row .outcome ≡ Outcome.Done
+  row-done : (after : State) → partsOf row .spare ≡ 0 → Room s step → Carried m t step after → stepIn m s row .refusal ≡ none
   unfolding stepIn
-  row-done after z r d = ap (λ (a : After). a .outcome) (tested-all _ s _ (eq-eqb _ _ z, tt)) ∙ carried-done m bytes s t c step after r d
+  row-done after z r d = ap (λ (a : After). a .refusal) (tested-all _ s _ (eq-eqb _ _ z, tt)) ∙ carried-done m bytes s t c step after r d
 
   same-after : (a b : State) → Carried m t step a → Carried m t step b → a ≡ b
   same-after a b x y = let e : some a ≡ some b = sym (carried-stepped m t step a x) ∙ carried-stepped m t step b y in let r : a ≡ b = cc in r

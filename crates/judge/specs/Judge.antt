@@ -2,7 +2,7 @@
 -- slice is no cell.
 -- Assumes nothing.
 use lib.ListN.{set}
-use Rattle.live.specs.Lent.{Lent, After}
+use Rattle.live.specs.Lent.{Lent, After, refusalOf}
 use Rattle.judge.specs.declared.Change.{Change}
 use Rattle.judge.specs.declared.Change.the-variants as Change
 use Rattle.judge.specs.declared.Judged.{Judged}
@@ -17,6 +17,6 @@ written (Change.Item i c) s = record { sessions = s .sessions; items = set (s .i
 unfoldable pub appliedTo : Judged → Lent → After
 appliedTo j s =
     record {
-      outcome = j .outcome;
+      refusal = refusalOf (j .outcome);
       lent = written (j .change) record { sessions = s .sessions; items = s .items; next = j .next };
     }

@@ -1,7 +1,7 @@
 -- Starting leaves cells that code the beginning of the file's runs. In order: lists; the starting cells read as the beginning stands.
 use mathlib.Core.Path.{_≡_, refl, sym, ap, _∙_, subst}
 use mathlib.Core.List.{List, [], _∷_, map}
-use mathlib.Core.Option.{some}
+use mathlib.Core.Option.{none, some}
 use Prim.Native.Nat.{ℕ, zero, suc, _≤_, _<_}
 use native.Mathlib.Decide.{decLt}
 use native.Mathlib.Omega.{arith}
@@ -14,7 +14,6 @@ use Rattle.allowed.specs.Allowed.{modelOf}
 use Rattle.cells.specs.Cell.{openCell, itemCell}
 use Rattle.cells.proofs.Laws.{placeOf-is, session-there, session-past, item-there}
 use Rattle.live.specs.Lent.{Lent, After, numbers}
-use Rattle.live.specs.declared.Outcome.the-variants as Outcome
 use Rattle.live.proofs.Outcomes.{tested-done, done-lent}
 use Rattle.steps.specs.Step.{sessionNow, itemNow}
 use Rattle.steps.specs.Codes.{Bytes, Codes}
@@ -111,7 +110,7 @@ module _ (p : Policy) (sound : Sound p) (bytes : Bytes (modelOf p)) (sessions it
         each-item = item-begins;
       }
 
-done-codes : (p : Policy) → Sound p → Bytes (modelOf p) → (sessions items : List ℕ) → started (rules p) sessions items .outcome ≡ Outcome.Done
+done-codes : (p : Policy) → Sound p → Bytes (modelOf p) → (sessions items : List ℕ) → started (rules p) sessions items .refusal ≡ none
     → Codes (modelOf p) (started (rules p) sessions items .lent) (beginning p)
 unfolding started
 done-codes p sound bytes sessions items d =
@@ -120,8 +119,8 @@ done-codes p sound bytes sessions items d =
     (codes-beginning p sound bytes sessions items)
 
 pub start-codes : (file : List ℕ) (p : Policy) → reading file ≡ rules p → (sessions items : List ℕ)
-    → started (reading file) sessions items .outcome ≡ Outcome.Done → Codes (modelOf p) (started (reading file) sessions items .lent) (beginning p)
+    → started (reading file) sessions items .refusal ≡ none → Codes (modelOf p) (started (reading file) sessions items .lent) (beginning p)
 start-codes file p e sessions items d =
     subst (λ (a : Answer). Codes (modelOf p) (started a sessions items .lent) (beginning p)) (sym e)
     (done-codes p (file-sound file p e) (file-bytes file p e) sessions items
-    (subst (λ (a : Answer). started a sessions items .outcome ≡ Outcome.Done) e d))
+    (subst (λ (a : Answer). started a sessions items .refusal ≡ none) e d))

@@ -2,15 +2,15 @@
 -- Assumes nothing.
 use mathlib.Core.Path.{_≡_}
 use mathlib.Core.List.{List}
+use mathlib.Core.Option.{none}
 use Prim.Native.Nat.{ℕ}
 use Rattle.policy.specs.Policy.{Policy}
 use Rattle.rules.specs.Answers.{reading, rules}
 use Rattle.allowed.specs.Allowed.{modelOf}
-use Rattle.live.specs.declared.Outcome.the-variants as Outcome
 use Rattle.steps.specs.Codes.{Codes}
 use Rattle.starting.specs.Start.{started, beginning}
 
 -- [01:Runs, "It begins with the file's starting ones, all sessions open"]: starting leaves cells that code the beginning of the file's runs
 abbrev pub StartIsTheBeginning : Type 0
 StartIsTheBeginning = (file : List ℕ) (p : Policy) → reading file ≡ rules p → (sessions items : List ℕ)
-    → started (reading file) sessions items .outcome ≡ Outcome.Done → Codes (modelOf p) (started (reading file) sessions items .lent) (beginning p)
+    → started (reading file) sessions items .refusal ≡ none → Codes (modelOf p) (started (reading file) sessions items .lent) (beginning p)

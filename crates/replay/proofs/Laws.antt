@@ -3,6 +3,7 @@
 use mathlib.Core.Path.{_≡_, refl, sym, ap, _∙_}
 use mathlib.Core.Bool.{Bool, true, false, _&&_, cond}
 use mathlib.Core.List.{List, [], _∷_}
+use mathlib.Core.Option.{Option, none, some}
 use Prim.Native.Nat.{ℕ, suc, _+_, _-_, _<_}
 use native.Mathlib.Numerals.{add-one}
 use native.Mathlib.Omega.{arith}
@@ -23,10 +24,8 @@ use Rattle.cells.specs.Row.{partsOf as rowParts, stepOf}
 use Rattle.cells.specs.Cell.{sessionAt, sessionOf}
 use Rattle.cells.specs.declared.row.Row.{Row}
 use Rattle.cells.specs.declared.SessionRead.{SessionRead}
-use Rattle.live.specs.Lent.{Lent, After, lentAs, leaves, refused}
+use Rattle.live.specs.Lent.{Lent, After, lentAs, refused}
 use Rattle.live.specs.declared.Next.{Next}
-use Rattle.live.specs.declared.Outcome.{Outcome}
-use Rattle.live.specs.declared.Outcome.the-variants as Outcome
 use Rattle.steps.specs.Step.{sessionNow, stepIn}
 use Rattle.starting.specs.Start.{started, nothingGiven}
 use Rattle.replay.specs.Question.{partsOf, whoOf, whichOf, whoAmong, whichAmong, partsAsk, asks}
@@ -152,19 +151,19 @@ last-is m s q (row ∷ rows) h =
 
 module _ (m : Model) (s t : Lent) (rows : List ℕ) (i : ℕ) where
   next-row : i < length rows → rowsIn m s i (drop i rows)
-      ≡ further (stepIn m s (getD rows i 0) .outcome) (stepIn m s (getD rows i 0) .lent) i (λ k. rowsIn m (stepIn m s (getD rows i 0) .lent) k (drop (suc i) rows))
+      ≡ further (stepIn m s (getD rows i 0) .refusal) (stepIn m s (getD rows i 0) .lent) i (λ k. rowsIn m (stepIn m s (getD rows i 0) .lent) k (drop (suc i) rows))
   unfolding rowsIn
   next-row h = rw (drop-cons rows i 0) refl
 
   -- row i is carried out
-  pub rows-further : i < length rows → {o : Outcome} → record { outcome = o; lent = t } ≡ stepIn m s (getD rows i 0) → o ≡ Outcome.Done
+  pub rows-further : i < length rows → {o : Option ℕ} → record { refusal = o; lent = t } ≡ stepIn m s (getD rows i 0) → o ≡ none
       → rowsIn m s i (drop i rows) ≡ rowsIn m t (i + 1) (drop (i + 1) rows)
   unfolding further
   rows-further h e d = next-row h ∙ rw (← e, d) (rw add-one)
 
   -- row i is refused
-  pub rows-stop : i < length rows → {o : Outcome} {n : ℕ} → record { outcome = o; lent = t } ≡ stepIn m s (getD rows i 0) → o ≡ Outcome.Refused n
-      → rowsIn m s i (drop i rows) ≡ record { outcome = Outcome.Refused n; lent = t; count = i }
+  pub rows-stop : i < length rows → {o : Option ℕ} {n : ℕ} → record { refusal = o; lent = t } ≡ stepIn m s (getD rows i 0) → o ≡ some n
+      → rowsIn m s i (drop i rows) ≡ record { refusal = some n; lent = t; count = i }
   unfolding further
   rows-stop h e d = next-row h ∙ rw (← e, d) refl
 
@@ -174,64 +173,64 @@ past (x ∷ l) e = absurd (omega arith)
 
 -- all rows were carried out
 pub rows-all : (m : Model) (s : Lent) (rows : List ℕ) (i : ℕ) → i ≡ length rows
-    → rowsIn m s i (drop i rows) ≡ record { outcome = Outcome.Done; lent = s; count = length rows }
+    → rowsIn m s i (drop i rows) ≡ record { refusal = none; lent = s; count = length rows }
 unfolding rowsIn ranAll
 rows-all m s rows i e =
     let d : drop i rows ≡ [] = past (drop i rows) (omega (arith, length-drop i rows)) in
-    rw d (ap (λ (n : ℕ). record { outcome = Outcome.Done; lent = s; count = n }) e)
+    rw d (ap (λ (n : ℕ). record { refusal = none; lent = s; count = n }) e)
 
 -- what a replay answers
 
--- an outcome and two slices are what a call leaves
-abbrev pub Left : Outcome → List ℕ → List ℕ → After → Type 0
-Left o sessions items a = (o ≡ a .outcome) × ((sessions ≡ a .lent .sessions) × (items ≡ a .lent .items))
+-- a number, if one is given, and two slices are what a call leaves
+abbrev pub Left : Option ℕ → List ℕ → List ℕ → After → Type 0
+Left o sessions items a = (o ≡ a .refusal) × ((sessions ≡ a .lent .sessions) × (items ≡ a .lent .items))
 
-pub leaving : {o : Outcome} {s : Lent} {a : After} → record { outcome = o; lent = s } ≡ a → Left o (s .sessions) (s .items) a
-leaving e = (ap (λ (x : After). x .outcome) e, (ap (λ (x : After). x .lent .sessions) e, ap (λ (x : After). x .lent .items) e))
+pub leaving : {o : Option ℕ} {s : Lent} {a : After} → record { refusal = o; lent = s } ≡ a → Left o (s .sessions) (s .items) a
+leaving e = (ap (λ (x : After). x .refusal) e, (ap (λ (x : After). x .lent .sessions) e, ap (λ (x : After). x .lent .items) e))
 
 module _ {a : Answer} (question rows sessions items : List ℕ) where
   -- the file is refused
-  pub replay-unread : {n : ℕ} → a ≡ refusal n → leaves (Outcome.Refused n) nothingGiven sessions items ≡ replayed a question rows sessions items
+  pub replay-unread : {n : ℕ} → a ≡ refusal n → record { refusal = some n; lent = lentAs sessions items nothingGiven } ≡ replayed a question rows sessions items
   unfolding replayed refused
   replay-unread e = rw e refl
 
   module _ (p : Policy) (read : a ≡ rules p) where
     -- nothing is asked
-    pub replay-unasked : asks p question ≡ false → leaves (Outcome.Refused 10) nothingGiven sessions items ≡ replayed a question rows sessions items
+    pub replay-unasked : asks p question ≡ false → record { refusal = some 10; lent = lentAs sessions items nothingGiven } ≡ replayed a question rows sessions items
     unfolding replayed refused
     replay-unasked e = rw (read, e) refl
 
     module _ (asking : asks p question ≡ true) where
       play : replayed a question rows sessions items
-          ≡ (let s = started (rules p) sessions items in played (modelOf p) (partsOf question) rows (s .outcome) (s .lent))
+          ≡ (let s = started (rules p) sessions items in played (modelOf p) (partsOf question) rows (s .refusal) (s .lent))
       unfolding replayed
       play = rw (read, asking) refl
 
       -- the starting cells don't fit
-      pub replay-unstarted : {o : Outcome} {n : ℕ} {s : Lent} → record { outcome = o; lent = s } ≡ started (rules p) sessions items → o ≡ Outcome.Refused n
-          → record { outcome = Outcome.Refused n; lent = s } ≡ replayed a question rows sessions items
+      pub replay-unstarted : {o : Option ℕ} {n : ℕ} {s : Lent} → record { refusal = o; lent = s } ≡ started (rules p) sessions items → o ≡ some n
+          → record { refusal = some n; lent = s } ≡ replayed a question rows sessions items
       unfolding played refused
       replay-unstarted e d = sym (play ∙ rw (← e, d) refl)
 
-      module _ {o : Outcome} {s : Lent} (begun : record { outcome = o; lent = s } ≡ started (rules p) sessions items) (d : o ≡ Outcome.Done) where
-        ran : {r : Ran} → r ≡ rowsIn (modelOf p) s 0 rows → replayed a question rows sessions items ≡ judged (modelOf p) (partsOf question) rows (r .outcome) (r .lent)
+      module _ {o : Option ℕ} {s : Lent} (begun : record { refusal = o; lent = s } ≡ started (rules p) sessions items) (d : o ≡ none) where
+        ran : {r : Ran} → r ≡ rowsIn (modelOf p) s 0 rows → replayed a question rows sessions items ≡ judged (modelOf p) (partsOf question) rows (r .refusal) (r .lent)
         unfolding played
         ran e = play ∙ rw (← begun, d, e) refl
 
         -- a row is refused
-        pub replay-stopped : {x : Outcome} {n k : ℕ} {t : Lent} → record { outcome = x; lent = t; count = k } ≡ rowsIn (modelOf p) s 0 rows → x ≡ Outcome.Refused n
-            → record { outcome = Outcome.Refused n; lent = t } ≡ replayed a question rows sessions items
+        pub replay-stopped : {x : Option ℕ} {n k : ℕ} {t : Lent} → record { refusal = x; lent = t; count = k } ≡ rowsIn (modelOf p) s 0 rows → x ≡ some n
+            → record { refusal = some n; lent = t } ≡ replayed a question rows sessions items
         unfolding judged refused
         replay-stopped e f = sym (ran e ∙ rw f refl)
 
-        module _ {x : Outcome} {k : ℕ} {t : Lent} (e : record { outcome = x; lent = t; count = k } ≡ rowsIn (modelOf p) s 0 rows) (f : x ≡ Outcome.Done) where
+        module _ {x : Option ℕ} {k : ℕ} {t : Lent} (e : record { refusal = x; lent = t; count = k } ≡ rowsIn (modelOf p) s 0 rows) (f : x ≡ none) where
           module _ {b : Bool} {q : Question} (h : b ≡ lastFits (modelOf p) t q rows) (g : q ≡ partsOf question) where
             -- the last row fits
-            pub replay-shown : b ≡ true → record { outcome = Outcome.Done; lent = t } ≡ replayed a question rows sessions items
+            pub replay-shown : b ≡ true → record { refusal = none; lent = t } ≡ replayed a question rows sessions items
             unfolding judged
             replay-shown z = sym (ran e ∙ rw (f, ← g, ← h, z) refl)
 
             -- it doesn't
-            pub replay-missed : b ≡ false → record { outcome = Outcome.Refused 17; lent = t } ≡ replayed a question rows sessions items
+            pub replay-missed : b ≡ false → record { refusal = some 17; lent = t } ≡ replayed a question rows sessions items
             unfolding judged refused
             replay-missed z = sym (ran e ∙ rw (f, ← g, ← h, z) refl)

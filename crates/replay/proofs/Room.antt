@@ -3,6 +3,7 @@
 use mathlib.Core.Path.{_≡_, refl, ap, _∙_}
 use mathlib.Core.Bool.{Bool, true, false, cond}
 use mathlib.Core.List.{List, [], _∷_}
+use mathlib.Core.Option.{none}
 use Prim.Native.Nat.{ℕ, _+_, _≤_}
 use native.Mathlib.Omega.{arith}
 use borrow.Author.Tests.{le-leb, eq-eqb}
@@ -15,9 +16,8 @@ use Rattle.runs.specs.State.{State, begin}
 use Rattle.runs.specs.Step.{Step, Carried, opens, closes, changes, makes, modifies, grants}
 use Rattle.cells.specs.Row.{stepOf, rowStep}
 use Rattle.live.specs.Lent.{Lent, After, done, numbers}
-use Rattle.live.specs.declared.Outcome.the-variants as Outcome
 use Rattle.live.proofs.Laws.{is-left}
-use Rattle.live.proofs.Outcomes.{tested-all, done-outcome}
+use Rattle.live.proofs.Outcomes.{tested-all, done-refusal}
 use Rattle.steps.specs.Codes.{Codes, Room}
 use Rattle.steps.proofs.Kept.{Celled}
 use Rattle.starting.specs.Start.{over, sessionCells, itemCells, started, beginning}
@@ -130,8 +130,8 @@ module _ (p : Policy) (rows sessions items : List ℕ) (e : Enough p rows (lengt
         (le-leb (length (p .items)) (length items) (omega (arith, e .item-cells)), tt),
       )
 
-  pub enough-starts : started (rules p) sessions items .outcome ≡ Outcome.Done
-  enough-starts = ap (λ (a : After). a .outcome) started-done ∙ done-outcome _
+  pub enough-starts : started (rules p) sessions items .refusal ≡ none
+  enough-starts = ap (λ (a : After). a .refusal) started-done ∙ done-refusal _
 
   pub enough-ample : NumbersLeft p rows → Ample (started (rules p) sessions items .lent) (beginning p) rows
   unfolding done sessionCells itemCells beginning begin

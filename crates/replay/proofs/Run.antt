@@ -3,6 +3,7 @@
 use mathlib.Core.Path.{_≡_, refl, sym, ap, _∙_, subst}
 use mathlib.Core.Bool.{Bool, true, false, _&&_, cond}
 use mathlib.Core.List.{List, [], _∷_, _++_, map, map-append}
+use mathlib.Core.Option.{Option, none, some}
 use Prim.Native.Nat.{ℕ, _+_, _-_}
 use native.Mathlib.Omega.{arith}
 use borrow.Author.Tests.{eqb-true, eq-eqb}
@@ -22,9 +23,7 @@ use Rattle.allowed.specs.Allowed.{modelOf}
 use Rattle.cells.specs.Row.{partsOf as rowParts, rowStep}
 use Rattle.cells.specs.Leak.{IsLeak}
 use Rattle.live.specs.Lent.{Lent, After, refused}
-use Rattle.live.specs.declared.Outcome.{Outcome}
-use Rattle.live.specs.declared.Outcome.the-variants as Outcome
-use Rattle.live.proofs.Outcomes.{refused-not-done}
+use Rattle.live.proofs.Outcomes.{some-not-none, refused-not-done}
 use Rattle.steps.specs.Step.{sessionNow, stepIn}
 use Rattle.steps.specs.Codes.{Bytes, Codes}
 use Rattle.steps.proofs.Theorems.{step-is-the-table, files-are-bytes}
@@ -126,16 +125,13 @@ spares = map (λ row. rowParts row .spare)
 abbrev zeros : List ℕ → List ℕ
 zeros = map (λ (row : ℕ). 0)
 
-not-done : {C : Type 0} {n : ℕ} → Path Outcome (Outcome.Refused n) Outcome.Done → C
-not-done e = absurd (let z : _≡_ {A = ℕ} 0 1 = cc in omega arith)
-
-further-done : {C : Type 0} (o : Outcome) (s : Lent) (i : ℕ) (f : ℕ → Ran) → further o s i f .outcome ≡ Outcome.Done
-    → (o ≡ Outcome.Done → f (i + 1) .outcome ≡ Outcome.Done → further o s i f ≡ f (i + 1) → C) → C
+further-done : {C : Type 0} (o : Option ℕ) (s : Lent) (i : ℕ) (f : ℕ → Ran) → further o s i f .refusal ≡ none
+    → (o ≡ none → f (i + 1) .refusal ≡ none → further o s i f ≡ f (i + 1) → C) → C
 unfolding further
-further-done Outcome.Done s i f e k = k refl e refl
-further-done (Outcome.Refused n) s i f e k = not-done e
+further-done none s i f e k = k refl e refl
+further-done (some n) s i f e k = some-not-none e
 
-done-further : (o : Outcome) (s : Lent) (i : ℕ) (f : ℕ → Ran) → o ≡ Outcome.Done → further o s i f ≡ f (i + 1)
+done-further : (o : Option ℕ) (s : Lent) (i : ℕ) (f : ℕ → Ran) → o ≡ none → further o s i f ≡ f (i + 1)
 unfolding further
 done-further o s i f e = rw e refl
 
@@ -153,7 +149,7 @@ record Told (m : Model) (t : State) (s : Lent) (rows : List ℕ) : Type 0 where
 
 module _ (m : Model) (bytes : Bytes m) where
   -- carried out on cells, carried out in the run
-  told : (row : ℕ) (rows : List ℕ) (s : Lent) (t : State) → Codes m s t → (i : ℕ) → rowsIn m s i (row ∷ rows) .outcome ≡ Outcome.Done → Told m t (rowsIn m s i (row ∷ rows) .lent) (row ∷ rows)
+  told : (row : ℕ) (rows : List ℕ) (s : Lent) (t : State) → Codes m s t → (i : ℕ) → rowsIn m s i (row ∷ rows) .refusal ≡ none → Told m t (rowsIn m s i (row ∷ rows) .lent) (row ∷ rows)
   unfolding rowsIn ranAll
   told row [] s t c i e =
       further-done _ _ _ _ e λ o d q.
@@ -189,12 +185,12 @@ module _ (m : Model) (bytes : Bytes m) where
 
   -- carried out in the run, carried out on cells that are enough
   record Shown (s : Lent) (after : State) (rows : List ℕ) (i : ℕ) : Type 0 where
-    outcome : rowsIn m s i rows .outcome ≡ Outcome.Done
+    refusal : rowsIn m s i rows .refusal ≡ none
     codes : Codes m (rowsIn m s i rows .lent) after
 
   shown : (rows : List ℕ) (s : Lent) (t after : State) → Codes m s t → Ample s t rows → CarriedAll m t (map rowStep rows) after → spares rows ≡ zeros rows → (i : ℕ) → Shown s after rows i
   unfolding rowsIn ranAll
-  shown [] s t after c a stop z i = record { outcome = refl; codes = c }
+  shown [] s t after c a stop z i = record { refusal = refl; codes = c }
   shown (row ∷ rows) s t after c a (then {next = next} h l) z i =
       let x = step-is-the-table m bytes s t c row in
       let z₀ : rowParts row .spare ≡ 0 = cc in
@@ -202,30 +198,30 @@ module _ (m : Model) (bytes : Bytes m) where
       let o = x .carried .1 (z₀, ample-room m s t row rows a c, (next, h)) in
       let u = stepIn m s row .lent in
       let r = shown rows u next after (x .codes next h o) (ample-after m s t row rows a u next (celled-step m s row) h) l z₁ (i + 1) in
-      let q = done-further (stepIn m s row .outcome) u i (λ k. rowsIn m u k rows) o in
-      record { outcome = ap (λ (y : Ran). y .outcome) q ∙ r .outcome; codes = subst (λ (y : Ran). Codes m (y .lent) after) (sym q) (r .codes) }
+      let q = done-further (stepIn m s row .refusal) u i (λ k. rowsIn m u k rows) o in
+      record { refusal = ap (λ (y : Ran). y .refusal) q ∙ r .refusal; codes = subst (λ (y : Ran). Codes m (y .lent) after) (sym q) (r .codes) }
 
 -- a replay that was carried out
 
-cond-done : {C : Type 0} (b : Bool) (a : After) (n : ℕ) (s : Lent) → cond b a (refused n s) .outcome ≡ Outcome.Done → (b ≡ true → a .outcome ≡ Outcome.Done → C) → C
+cond-done : {C : Type 0} (b : Bool) (a : After) (n : ℕ) (s : Lent) → cond b a (refused n s) .refusal ≡ none → (b ≡ true → a .refusal ≡ none → C) → C
 cond-done true a n s e k = k refl e
 cond-done false a n s e k = refused-not-done n s e
 
-judged-done : {C : Type 0} (m : Model) (q : Question) (rows : List ℕ) (o : Outcome) (s : Lent) → judged m q rows o s .outcome ≡ Outcome.Done
-    → (o ≡ Outcome.Done → lastFits m s q rows ≡ true → C) → C
+judged-done : {C : Type 0} (m : Model) (q : Question) (rows : List ℕ) (o : Option ℕ) (s : Lent) → judged m q rows o s .refusal ≡ none
+    → (o ≡ none → lastFits m s q rows ≡ true → C) → C
 unfolding judged
-judged-done m q rows Outcome.Done s e k = cond-done _ _ _ s e λ h _. k refl h
-judged-done m q rows (Outcome.Refused n) s e k = refused-not-done n s e
+judged-done m q rows none s e k = cond-done _ _ _ s e λ h _. k refl h
+judged-done m q rows (some n) s e k = refused-not-done n s e
 
-played-done : {C : Type 0} (m : Model) (q : Question) (rows : List ℕ) (o : Outcome) (s : Lent) → played m q rows o s .outcome ≡ Outcome.Done
-    → (o ≡ Outcome.Done → rowsIn m s 0 rows .outcome ≡ Outcome.Done → lastFits m (rowsIn m s 0 rows .lent) q rows ≡ true → C) → C
+played-done : {C : Type 0} (m : Model) (q : Question) (rows : List ℕ) (o : Option ℕ) (s : Lent) → played m q rows o s .refusal ≡ none
+    → (o ≡ none → rowsIn m s 0 rows .refusal ≡ none → lastFits m (rowsIn m s 0 rows .lent) q rows ≡ true → C) → C
 unfolding played
-played-done m q rows Outcome.Done s e k = judged-done m q rows _ _ e λ d h. k refl d h
-played-done m q rows (Outcome.Refused n) s e k = refused-not-done n s e
+played-done m q rows none s e k = judged-done m q rows _ _ e λ d h. k refl d h
+played-done m q rows (some n) s e k = refused-not-done n s e
 
-replayed-done : {C : Type 0} (p : Policy) (question rows sessions items : List ℕ) → replayed (rules p) question rows sessions items .outcome ≡ Outcome.Done
+replayed-done : {C : Type 0} (p : Policy) (question rows sessions items : List ℕ) → replayed (rules p) question rows sessions items .refusal ≡ none
     → let s = started (rules p) sessions items in let r = rowsIn (modelOf p) (s .lent) 0 rows in
-    (asks p question ≡ true → s .outcome ≡ Outcome.Done → r .outcome ≡ Outcome.Done → lastFits (modelOf p) (r .lent) (partsOf question) rows ≡ true → C) → C
+    (asks p question ≡ true → s .refusal ≡ none → r .refusal ≡ none → lastFits (modelOf p) (r .lent) (partsOf question) rows ≡ true → C) → C
 unfolding replayed
 replayed-done p question rows sessions items e k =
     cond-done _ _ _ _ e λ a d. played-done (modelOf p) (partsOf question) rows _ _ d λ b r f. k a b r f
@@ -238,16 +234,16 @@ module _ (file : List ℕ) (p : Policy) (read : reading file ≡ rules p) (quest
   s = started (rules p) sessions items .lent
 
   -- the cells after the start code the beginning
-  begun : started (rules p) sessions items .outcome ≡ Outcome.Done → Codes (modelOf p) s (beginning p)
+  begun : started (rules p) sessions items .refusal ≡ none → Codes (modelOf p) s (beginning p)
   begun d =
       subst (λ (a : Answer). Codes (modelOf p) (started a sessions items .lent) (beginning p)) read
-      (start-is-the-beginning file p read sessions items (subst (λ (a : Answer). started a sessions items .outcome ≡ Outcome.Done) (sym read) d))
+      (start-is-the-beginning file p read sessions items (subst (λ (a : Answer). started a sessions items .refusal ≡ none) (sym read) d))
 
   -- the rows are a leak of what the question asks
   abbrev Leaks : List ℕ → Type 0
   Leaks = IsLeak (modelOf p) (beginning p) (whoOf q) (whichOf q) (q .permission)
 
-  leak-shown : (l : List ℕ) → Codes (modelOf p) s (beginning p) → rowsIn (modelOf p) s 0 l .outcome ≡ Outcome.Done
+  leak-shown : (l : List ℕ) → Codes (modelOf p) s (beginning p) → rowsIn (modelOf p) s 0 l .refusal ≡ none
       → lastFits (modelOf p) (rowsIn (modelOf p) s 0 l .lent) q l ≡ true → Leaks l
   leak-shown [] c d f = absurd (let z : false ≡ true = none-fits (modelOf p) (rowsIn (modelOf p) s 0 [] .lent) q [] refl ∙ f in let y : _≡_ {A = ℕ} 0 1 = cc in omega arith)
   leak-shown (row ∷ l) c d f =
@@ -265,9 +261,9 @@ module _ (file : List ℕ) (p : Policy) (read : reading file ≡ rules p) (quest
         plain = r .plain;
       }
 
-  pub is-sound : replayed (reading file) question rows sessions items .outcome ≡ Outcome.Done → AskedLeak p question rows
+  pub is-sound : replayed (reading file) question rows sessions items .refusal ≡ none → AskedLeak p question rows
   is-sound e =
-      replayed-done p question rows sessions items (subst (λ (a : Answer). replayed a question rows sessions items .outcome ≡ Outcome.Done) read e)
+      replayed-done p question rows sessions items (subst (λ (a : Answer). replayed a question rows sessions items .refusal ≡ none) read e)
       λ a b d f. record { who = whoOf q; which = whichOf q; permission = q .permission; asked = asks-asked p question a; leak = leak-shown rows (begun b) d f }
 
   -- all rows of a leak are carried out
@@ -277,16 +273,16 @@ module _ (file : List ℕ) (p : Policy) (read : reading file ≡ rules p) (quest
       (append-carried (modelOf p) (l .carried) (then (grants (l .fits .granted)) stop))
 
   complete : asks p question ≡ true → Leaks rows → Enough p rows (length sessions) (length items) → NumbersLeft p rows
-      → replayed (reading file) question rows sessions items .outcome ≡ Outcome.Done
+      → replayed (reading file) question rows sessions items .refusal ≡ none
   complete a l e n =
       let d = enough-starts p rows sessions items e in
       let x = shown (modelOf p) (files-are-bytes file p read) rows s (beginning p) (l .state) (begun d) (enough-ample p rows sessions items e n) (leak-carried l) (l .plain) 0 in
       let u = rowsIn (modelOf p) s 0 rows .lent in
       let f = last-row (modelOf p) u q rows (l .before) (l .last) (l .rows-are) ∙ run-fits (modelOf p) q (rowStep (l .last)) u (l .state) (x .codes) (l .fits) in
-      sym (ap (λ (y : After). y .outcome) (replay-shown question rows sessions items p read a refl d refl (x .outcome) (sym f) refl refl))
+      sym (ap (λ (y : After). y .refusal) (replay-shown question rows sessions items p read a refl d refl (x .refusal) (sym f) refl refl))
 
   pub is-complete : AskedLeak p question rows → Enough p rows (length sessions) (length items) → NumbersLeft p rows
-      → replayed (reading file) question rows sessions items .outcome ≡ Outcome.Done
+      → replayed (reading file) question rows sessions items .refusal ≡ none
   is-complete l =
       complete (asked-asks p question (l .who) (l .which) (l .permission) (l .asked) .0)
       (of-parts (λ who which permission. IsLeak (modelOf p) (beginning p) who which permission rows) p question (l .who) (l .which) (l .permission) (l .asked) (l .leak))

@@ -3,6 +3,7 @@
 use mathlib.Core.Path.{_≡_}
 use mathlib.Core.Bool.{true, cond}
 use mathlib.Core.List.{List, [], _∷_}
+use mathlib.Core.Option.{none}
 use Prim.Native.Nat.{ℕ, _+_, _≤_}
 use lib.Dec.{eqb}
 use lib.ListN.{length}
@@ -13,7 +14,6 @@ use Rattle.allowed.specs.Allowed.{modelOf}
 use Rattle.cells.specs.Row.{partsOf as rowParts}
 use Rattle.cells.specs.Leak.{IsLeak}
 use Rattle.live.specs.Lent.{numbers}
-use Rattle.live.specs.declared.Outcome.the-variants as Outcome
 use Rattle.starting.specs.Start.{beginning}
 use Rattle.replay.specs.Asked.{Asked}
 use Rattle.replay.specs.Question.{partsOf, whoOf, whichOf, asks}
@@ -53,7 +53,7 @@ pub record AskedLeak (p : Policy) (question rows : List ℕ) : Type 0 where
 -- the last is a grant that fits; the other way where cells and numbers are enough, whatever the cells held
 pub record ReplayIsTheRun : Type 0 where
   pub sound : (file : List ℕ) (p : Policy) → reading file ≡ rules p → (question rows sessions items : List ℕ)
-      → replayed (reading file) question rows sessions items .outcome ≡ Outcome.Done → AskedLeak p question rows
+      → replayed (reading file) question rows sessions items .refusal ≡ none → AskedLeak p question rows
   pub complete : (file : List ℕ) (p : Policy) → reading file ≡ rules p → (question rows sessions items : List ℕ)
       → AskedLeak p question rows → Enough p rows (length sessions) (length items) → NumbersLeft p rows
-      → replayed (reading file) question rows sessions items .outcome ≡ Outcome.Done
+      → replayed (reading file) question rows sessions items .refusal ≡ none

@@ -4,6 +4,7 @@
 -- Assumes nothing.
 use mathlib.Core.Bool.{Bool, false, true, _&&_, cond}
 use mathlib.Core.List.{List, [], _∷_}
+use mathlib.Core.Option.{Option, none, some}
 use Prim.Native.Nat.{ℕ}
 use lib.Dec.{eqb}
 use lib.ListN.{length, getD}
@@ -15,8 +16,6 @@ use Rattle.runs.specs.Grant.{Who, session, user, anyone, Which, item, anything}
 use Rattle.allowed.specs.Allowed.{modelOf}
 use Rattle.cells.specs.Row.{partsOf as rowParts, stepOf}
 use Rattle.live.specs.Lent.{Lent, After, refused, lentAs}
-use Rattle.live.specs.declared.Outcome.{Outcome}
-use Rattle.live.specs.declared.Outcome.the-variants as Outcome
 use Rattle.steps.specs.Step.{sessionNow}
 use Rattle.starting.specs.Start.{started, nothingGiven}
 use Rattle.replay.specs.Question.{partsOf, whoOf, whichOf, asks}
@@ -49,18 +48,18 @@ lastFits m s q [] = false
 lastFits m s q (row ∷ rows) = stepFits m s q (stepOf (rowParts (getD (row ∷ rows) (length rows) 0)))
 
 -- after the rows ran
-unfoldable pub judged : Model → Question → List ℕ → Outcome → Lent → After
-judged m q rows Outcome.Done s = cond (lastFits m s q rows) (record { outcome = Outcome.Done; lent = s }) (refused 17 s)
-judged m q rows (Outcome.Refused n) s = refused n s
+unfoldable pub judged : Model → Question → List ℕ → Option ℕ → Lent → After
+judged m q rows none s = cond (lastFits m s q rows) (record { refusal = none; lent = s }) (refused 17 s)
+judged m q rows (some n) s = refused n s
 
 -- after the start
-unfoldable pub played : Model → Question → List ℕ → Outcome → Lent → After
-played m q rows Outcome.Done s = let r = rowsIn m s 0 rows in judged m q rows (r .outcome) (r .lent)
-played m q rows (Outcome.Refused n) s = refused n s
+unfoldable pub played : Model → Question → List ℕ → Option ℕ → Lent → After
+played m q rows none s = let r = rowsIn m s 0 rows in judged m q rows (r .refusal) (r .lent)
+played m q rows (some n) s = refused n s
 
--- the whole: the outcome, and what the lent cells hold
+-- the whole: the number that is given instead, if one is, and what the lent cells hold
 unfoldable pub replayed : Answer → List ℕ → List ℕ → List ℕ → List ℕ → After
 replayed (refusal n) question rows sessions items = refused n (lentAs sessions items nothingGiven)
 replayed (rules p) question rows sessions items =
     let s = started (rules p) sessions items in
-    cond (asks p question) (played (modelOf p) (partsOf question) rows (s .outcome) (s .lent)) (refused 10 (lentAs sessions items nothingGiven))
+    cond (asks p question) (played (modelOf p) (partsOf question) rows (s .refusal) (s .lent)) (refused 10 (lentAs sessions items nothingGiven))

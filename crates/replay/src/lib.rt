@@ -2,6 +2,7 @@
 ghost use mathlib.Core.Path.{_≡_};
 ghost use Rattle.policy.specs.Rules.{policyOf};
 ghost use Rattle.rules.specs.Answers.{reading};
+ghost use Rattle.live.specs.Lent.{refusalOf};
 ghost use Rattle.replay.specs.Replay.{replayed};
 
 mod fits;
@@ -25,7 +26,7 @@ pub fn replay(
     sessions: &mut [u64],
     items: &mut [u64],
 ) -> Outcome
-    ensures { λ r. ⌜ r ≡ replayed (reading (now (file .entry))) (now (question .entry)) (now (rows .entry)) (now (sessions .entry)) (now (items .entry)) .outcome ⌝ }
+    ensures { λ r. ⌜ refusalOf r ≡ replayed (reading (now (file .entry))) (now (question .entry)) (now (rows .entry)) (now (sessions .entry)) (now (items .entry)) .refusal ⌝ }
     ensures { λ r. ⌜ now (sessions .exit) ≡ replayed (reading (now (file .entry))) (now (question .entry)) (now (rows .entry)) (now (sessions .entry)) (now (items .entry)) .lent .sessions ⌝ }
     ensures { λ r. ⌜ now (items .exit) ≡ replayed (reading (now (file .entry))) (now (question .entry)) (now (rows .entry)) (now (sessions .entry)) (now (items .entry)) .lent .items ⌝ }
 {

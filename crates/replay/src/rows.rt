@@ -2,7 +2,7 @@
 ghost use mathlib.Core.Path.{_≡_};
 ghost use Rattle.policy.specs.Rules.{policyOf};
 ghost use Rattle.allowed.specs.Allowed.{modelOf};
-ghost use Rattle.live.specs.Lent.{lentAs};
+ghost use Rattle.live.specs.Lent.{lentAs, refusalOf};
 ghost use Rattle.replay.specs.Rows.{Ran, rowsIn};
 use live::Next;
 use live::Outcome;
@@ -24,7 +24,7 @@ pub fn steps_at(
     next: Next,
     rows: &[u64],
 ) -> Steps
-    ensures { λ r. ⌜ record { outcome = r .outcome; lent = lentAs (now (sessions .exit)) (now (items .exit)) (r .next); count = r .count } ≡ rowsIn (modelOf (policyOf rules)) (lentAs (now (sessions .entry)) (now (items .entry)) next) 0 (now (rows .entry)) ⌝ }
+    ensures { λ r. ⌜ record { refusal = refusalOf (r .outcome); lent = lentAs (now (sessions .exit)) (now (items .exit)) (r .next); count = r .count } ≡ rowsIn (modelOf (policyOf rules)) (lentAs (now (sessions .entry)) (now (items .entry)) next) 0 (now (rows .entry)) ⌝ }
 {
     let mut at = next;
     for i in 0..rows.len() {

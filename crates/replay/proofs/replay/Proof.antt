@@ -1,9 +1,10 @@
 -- `replay::replay` meets its contract: each return is told by how far it came.
-use mathlib.Core.Path.{_≡_}
+use mathlib.Core.Path.{_≡_, ap}
 use mathlib.Core.Bool.{true}
 use Rattle.policy.specs.Rules.{policyOf}
 use Rattle.rules.specs.Answers.{reading, rules}
 use Rattle.rules.proofs.Laws.{was-accepted, was-refused}
+use Rattle.live.specs.Lent.{refusalOf}
 use Rattle.live.proofs.Laws.{held, denied}
 use Rattle.replay.specs.Question.{asks}
 use Rattle.replay.proofs.Laws.{leaving, replay-unread, replay-unasked, replay-unstarted, replay-stopped, replay-shown, replay-missed}
@@ -67,7 +68,7 @@ returns-3 c =
     let t = n .before .before in
     let a = t .before .before .before .before .before .before .before .before .before .args in
     leaving
-    (replay-unstarted (a .question .now) (a .rows .now) (a .sessions .now) (a .items .now) _ (read t) (asking n) (v .start-with .ensures) (c .before .outcome .given .1))
+    (replay-unstarted (a .question .now) (a .rows .now) (a .sessions .now) (a .items .now) _ (read t) (asking n) (v .start-with .ensures) (ap refusalOf (c .before .outcome .given .1)))
 
 enum-told-2 : tie.Need-enum-told-2
 enum-told-2 c = search needs
@@ -93,7 +94,7 @@ returns-4 c =
     let a = t .before .before .before .before .before .before .before .before .before .args in
     leaving
     (replay-stopped (a .question .now) (a .rows .now) (a .sessions .now) (a .items .now) _ (read t) (asking n)
-    (v .start-with .ensures) (w .before .before .before .enum-told2 .given .1) (w .steps-at .ensures) (c .before .outcome2 .given .1))
+    (v .start-with .ensures) (ap refusalOf (w .before .before .before .enum-told2 .given .1)) (w .steps-at .ensures) (ap refusalOf (c .before .outcome2 .given .1)))
 
 enum-told-3 : tie.Need-enum-told-3
 enum-told-3 c = search needs
@@ -119,7 +120,7 @@ returns-5 c =
     let a = t .before .before .before .before .before .before .before .before .before .args in
     leaving
     (replay-shown (a .question .now) (a .rows .now) (a .sessions .now) (a .items .now) _ (read t) (asking n)
-    (v .start-with .ensures) (w .before .before .before .enum-told2 .given .1) (w .steps-at .ensures) (c .before .before .before .before .enum-told3 .given .1)
+    (v .start-with .ensures) (ap refusalOf (w .before .before .before .enum-told2 .given .1)) (w .steps-at .ensures) (ap refusalOf (c .before .before .before .before .enum-told3 .given .1))
     (c .before .last-fits .ensures _) (c .before .before .of .ensures) (c .if2 .taken))
 
 same-length-7 : tie.Need-same-length-7
@@ -137,7 +138,7 @@ returns-6 c =
     let a = t .before .before .before .before .before .before .before .before .before .args in
     leaving
     (replay-missed (a .question .now) (a .rows .now) (a .sessions .now) (a .items .now) _ (read t) (asking n)
-    (v .start-with .ensures) (w .before .before .before .enum-told2 .given .1) (w .steps-at .ensures) (c .before .before .before .before .enum-told3 .given .1)
+    (v .start-with .ensures) (ap refusalOf (w .before .before .before .enum-told2 .given .1)) (w .steps-at .ensures) (ap refusalOf (c .before .before .before .before .enum-told3 .given .1))
     (c .before .last-fits .ensures _) (c .before .before .of .ensures) (c .if2 .left))
 
 pub replay-spec : {M : Type 1} → statement M

@@ -1,12 +1,12 @@
 -- `replay::rows::steps_at` meets its contract. The loop's invariant: all rows from the lent state come to what those from i on come to from the
 -- state now, and the slices are as long as they were. The measure is what is left of the rows.
-use mathlib.Core.Path.{_≡_, sym, _∙_}
+use mathlib.Core.Path.{_≡_, sym, ap, _∙_}
 use Prim.Native.Nat.{_-_, _≤_}
 use native.Mathlib.Omega.{arith}
 use lib.ListN.{length, drop}
 use Rattle.policy.specs.Rules.{policyOf}
 use Rattle.allowed.specs.Allowed.{modelOf}
-use Rattle.live.specs.Lent.{lentAs}
+use Rattle.live.specs.Lent.{lentAs, refusalOf}
 use Rattle.replay.specs.Rows.{rowsIn}
 use Rattle.replay.proofs.Laws.{rows-further, rows-stop, rows-all}
 use borrow.Author.Needs.{needs}
@@ -53,7 +53,7 @@ returns c =
     let t = c .before .before .before .before .before .before .before .before in
     let l = t .before .before .before .before .before .loop in
     let a = t .before .before .before .before .before .before .before .before .before .args in
-    sym (l .inv .4 ∙ rows-stop _ _ _ (a .rows .now) (l .i) (omega arith) (t .step-at .ensures) (c .before .outcome .given .1))
+    sym (l .inv .4 ∙ rows-stop _ _ _ (a .rows .now) (l .i) (omega arith) (t .step-at .ensures) (ap refusalOf (c .before .outcome .given .1)))
 
 add-i : tie.Need-add-i Inv-loop μ-loop
 add-i c = search needs
@@ -70,7 +70,7 @@ loop-again c = (
   let t = c .before .before .before .before .before .before .before in
       let l = t .before .before .before .before .before .loop in
       let a = t .before .before .before .before .before .before .before .before .before .args in
-      l .inv .4 ∙ rows-further _ _ _ (a .rows .now) (l .i) (omega arith) (t .step-at .ensures) (c .enum-told .given .1),
+      l .inv .4 ∙ rows-further _ _ _ (a .rows .now) (l .i) (omega arith) (t .step-at .ensures) (ap refusalOf (c .enum-told .given .1)),
 )
 
 same-length-3 : tie.Need-same-length-3 Inv-loop μ-loop

@@ -1,7 +1,7 @@
 // The calls on live states for hosts: each returns 0, or paper 01's number, and the next numbers are lent one by one.
 ghost use mathlib.Core.Path.{_≡_};
 ghost use Rattle.rules.specs.Answers.{reading};
-ghost use Rattle.live.specs.Lent.{lentAs, outcomeNumber};
+ghost use Rattle.live.specs.Lent.{lentAs, hostNumber};
 ghost use Rattle.host_steps.specs.Steps.{hostStarted, hostStepped, hostSteps};
 use live::Next;
 use live::Outcome;
@@ -17,7 +17,7 @@ pub fn start(
     session: &mut u64,
     item: &mut u64,
 ) -> u32
-    ensures { λ r. ⌜ r ≡ outcomeNumber (hostStarted (reading (now (file .entry))) (lentAs (now (sessions .entry)) (now (items .entry)) record { session = now (session .entry); item = now (item .entry) }) .outcome) ⌝ }
+    ensures { λ r. ⌜ r ≡ hostNumber (hostStarted (reading (now (file .entry))) (lentAs (now (sessions .entry)) (now (items .entry)) record { session = now (session .entry); item = now (item .entry) }) .refusal) ⌝ }
     ensures { λ r. ⌜ lentAs (now (sessions .exit)) (now (items .exit)) record { session = now (session .exit); item = now (item .exit) } ≡ hostStarted (reading (now (file .entry))) (lentAs (now (sessions .entry)) (now (items .entry)) record { session = now (session .entry); item = now (item .entry) }) .lent ⌝ }
 {
     let s = starting::start(file, sessions, items);
@@ -42,7 +42,7 @@ pub fn step(
     item: &mut u64,
     row: u64,
 ) -> u32
-    ensures { λ r. ⌜ r ≡ outcomeNumber (hostStepped (reading (now (file .entry))) (lentAs (now (sessions .entry)) (now (items .entry)) record { session = now (session .entry); item = now (item .entry) }) row .outcome) ⌝ }
+    ensures { λ r. ⌜ r ≡ hostNumber (hostStepped (reading (now (file .entry))) (lentAs (now (sessions .entry)) (now (items .entry)) record { session = now (session .entry); item = now (item .entry) }) row .refusal) ⌝ }
     ensures { λ r. ⌜ lentAs (now (sessions .exit)) (now (items .exit)) record { session = now (session .exit); item = now (item .exit) } ≡ hostStepped (reading (now (file .entry))) (lentAs (now (sessions .entry)) (now (items .entry)) record { session = now (session .entry); item = now (item .entry) }) row .lent ⌝ }
 {
     let p = rules::read_rules(file);
@@ -74,7 +74,7 @@ pub fn step_all(
     rows: &[u64],
     done: &mut u64,
 ) -> u32
-    ensures { λ r. ⌜ r ≡ outcomeNumber (hostSteps (reading (now (file .entry))) (lentAs (now (sessions .entry)) (now (items .entry)) record { session = now (session .entry); item = now (item .entry) }) (now (rows .entry)) .outcome) ⌝ }
+    ensures { λ r. ⌜ r ≡ hostNumber (hostSteps (reading (now (file .entry))) (lentAs (now (sessions .entry)) (now (items .entry)) record { session = now (session .entry); item = now (item .entry) }) (now (rows .entry)) .refusal) ⌝ }
     ensures { λ r. ⌜ lentAs (now (sessions .exit)) (now (items .exit)) record { session = now (session .exit); item = now (item .exit) } ≡ hostSteps (reading (now (file .entry))) (lentAs (now (sessions .entry)) (now (items .entry)) record { session = now (session .entry); item = now (item .entry) }) (now (rows .entry)) .lent ⌝ }
     ensures { λ r. ⌜ now (done .exit) ≡ hostSteps (reading (now (file .entry))) (lentAs (now (sessions .entry)) (now (items .entry)) record { session = now (session .entry); item = now (item .entry) }) (now (rows .entry)) .count ⌝ }
 {

@@ -1,5 +1,6 @@
 -- `host_steps::start` meets its contract: what `starting::start` leaves, with the next numbers kept where it gives a number.
-use Rattle.live.specs.Lent.{leaves}
+use mathlib.Core.Path.{ap}
+use Rattle.live.specs.Lent.{refusalOf, leaves}
 use Rattle.rules.specs.Answers.{reading}
 use Rattle.host_steps.proofs.Laws.{start-number, start-done}
 use borrow.Author.Needs.{needs}
@@ -29,7 +30,7 @@ returns c =
     let k = c .before .before .before .before .before .before .before .start in
     let a = c .before .before .before .before .before .before .before .before .before .before .before .before .before .args in
     let x = leaves (k .result .outcome) (k .result .next) (k .last .1 .0) (k .last .1 .1 .0) in
-    start-number (reading (a .file .now)) (a .sessions .now) (a .items .now) record { session = a .session .now; item = a .item .now } x (k .ensures .0) _ (c .before .outcome .given .1)
+    start-number (reading (a .file .now)) (a .sessions .now) (a .items .now) record { session = a .session .now; item = a .item .now } x (k .ensures .0) _ (ap refusalOf (c .before .outcome .given .1))
 
 same-length-3 : tie.Need-same-length-3
 same-length-3 c = search needs
@@ -42,7 +43,7 @@ returns-2 c =
     let k = c .before .before .before .before .before .before .before .start in
     let a = c .before .before .before .before .before .before .before .before .before .before .before .before .before .args in
     let x = leaves (k .result .outcome) (k .result .next) (k .last .1 .0) (k .last .1 .1 .0) in
-    start-done (reading (a .file .now)) (a .sessions .now) (a .items .now) record { session = a .session .now; item = a .item .now } x (k .ensures .0) (c .before .enum-told .given .1)
+    start-done (reading (a .file .now)) (a .sessions .now) (a .items .now) record { session = a .session .now; item = a .item .now } x (k .ensures .0) (ap refusalOf (c .before .enum-told .given .1))
 
 pub start-spec : {M : Type 1} → statement M
 start-spec =

@@ -1,6 +1,6 @@
 -- `host_steps::step_all` meets its contract: a refused file gives its number; with its rules, what `replay::rows::steps_at` leaves.
 use mathlib.Core.Path.{_≡_}
-use Rattle.live.specs.Lent.{lentAs}
+use Rattle.live.specs.Lent.{lentAs, refusalOf}
 use Rattle.policy.specs.Rules.{policyOf}
 use Rattle.rules.specs.Answers.{reading, rules}
 use Rattle.rules.proofs.Laws.{was-accepted, was-refused}
@@ -52,7 +52,7 @@ returns-2 c =
     let q = k .before .before .before .before .before .before .before .read-rules in
     let a = k .before .before .before .before .before .before .before .before .before .before .before .before .args in
     let s = lentAs (a .sessions .now) (a .items .now) record { session = a .session .now; item = a .item .now } in
-    let x : Ran = record { outcome = k .steps-at .result .outcome; lent = lentAs (k .steps-at .last .1 .0) (k .steps-at .last .1 .1 .0) (k .steps-at .result .next); count = k .steps-at .result .count } in
+    let x : Ran = record { refusal = refusalOf (k .steps-at .result .outcome); lent = lentAs (k .steps-at .last .1 .0) (k .steps-at .last .1 .1 .0) (k .steps-at .result .next); count = k .steps-at .result .count } in
     steps-told (reading (a .file .now)) (policyOf (q .result .rules)) (accepted k) s (a .rows .now) x (k .steps-at .ensures) _ (c .number-of .ensures)
 
 pub step-all-spec : {M : Type 1} → statement M

@@ -4,6 +4,7 @@ use mathlib.Core.Path.{_≡_, refl, sym, ap, _∙_, subst}
 use mathlib.Core.Bool.{Bool, true, false, cond}
 use mathlib.Core.Logic.{_⊎_, inl, inr}
 use mathlib.Core.List.{List}
+use mathlib.Core.Option.{none}
 use Prim.Native.Nat.{ℕ, _≤_, _<_}
 use native.Mathlib.Omega.{arith}
 use borrow.Author.Tests.{ltb-true, le-ltb, lt-ltb}
@@ -20,7 +21,6 @@ use Rattle.verdict.specs.Meaning.{Counts}
 use Rattle.verdict.specs.Verdict.{allBrought, pairs, leaks, values}
 use Rattle.verdict.proofs.Theorems.{verdict-is-computed, pairs-are-counted, values-are-counted}
 use Rattle.allowed.specs.Allowed.{modelOf}
-use Rattle.live.specs.declared.Outcome.the-variants as Outcome
 use Rattle.steps.proofs.Files.{file-sound}
 use Rattle.starting.specs.Start.{beginning}
 use Rattle.replay.specs.Question.{partsOf, whoOf, whichOf, asks}
@@ -159,12 +159,12 @@ module _ (file question before after : List ℕ) (r : Rules) (users : List Found
   -- where there is no hit, and where there is one
   unless : {C : Type 0} → (a .verdict ≡ Verdict.Safe → a .rows ≡ 0 → after ≡ before → C)
       → (a .verdict ≡ Verdict.Leak → leakPlace r users q < 256 → LeakLeft r users q before after (a .rows) → C) → C
-  unless {C} none some = go (ltb (leakPlace r users q) 256) refl (D .leak)
+  unless {C} safe leak = go (ltb (leakPlace r users q) 256) refl (D .leak)
     where
       go : (b : Bool) → ltb (leakPlace r users q) 256 ≡ b → 256 ≤ leakPlace r users q ⊎ LeakLeft r users q before after (a .rows) → C
-      go false e l = let (x, y) = D .safe e in none (D .verdict ∙ ap (λ (b : Bool). cond b Verdict.Leak Verdict.Safe) e) x y
+      go false e l = let (x, y) = D .safe e in safe (D .verdict ∙ ap (λ (b : Bool). cond b Verdict.Leak Verdict.Safe) e) x y
       go true e (inl l) = let h = ltb-true (leakPlace r users q) 256 e in absurd (omega arith)
-      go true e (inr L) = some (D .verdict ∙ ap (λ (b : Bool). cond b Verdict.Leak Verdict.Safe) e) (ltb-true (leakPlace r users q) 256 e) L
+      go true e (inr L) = leak (D .verdict ∙ ap (λ (b : Bool). cond b Verdict.Leak Verdict.Safe) e) (ltb-true (leakPlace r users q) 256 e) L
 
   never : a .verdict ≡ Verdict.Safe → Never (policyOf r) question
   never v steps last f =
@@ -175,7 +175,7 @@ module _ (file question before after : List ℕ) (r : Rules) (users : List Found
       not-leak (sym (verdict-is ∙ ap (λ (b : Bool). cond b Verdict.Leak Verdict.Safe) t) ∙ v)
 
   replays : a .verdict ≡ Verdict.Leak → (sessions items : List ℕ) → Enough (policyOf r) (take (a .rows) after) (length sessions) (length items)
-      → replayed (reading file) question (take (a .rows) after) sessions items .outcome ≡ Outcome.Done
+      → replayed (reading file) question (take (a .rows) after) sessions items .refusal ≡ none
   replays v sessions items enough =
       unless (λ w _ _. not-leak (sym v ∙ w)) λ _ h L.
       replay-is-the-run .complete file (policyOf r) read question (take (a .rows) after) sessions items asked
@@ -195,7 +195,7 @@ module _ (file question before after : List ℕ) (r : Rules) (users : List Found
     rows-few = λ p e. subst (λ (p : Policy). a .rows ≤ rowsNeeded p) (same e) rows-few;
     safe = λ v p e. subst (λ (p : Policy). Never p question) (same e) (never v);
     leak = λ v p e sessions items. subst (λ (p : Policy). Enough p (take (a .rows) after) (length sessions) (length items)
-        → replayed (reading file) question (take (a .rows) after) sessions items .outcome ≡ Outcome.Done) (same e) (replays v sessions items);
+        → replayed (reading file) question (take (a .rows) after) sessions items .refusal ≡ none) (same e) (replays v sessions items);
     pairs = λ d p e. subst (λ (p : Policy). Counts (λ (x : ℕ × ℕ). SessionStands (modelOf p) (beginning p) (x .0) (x .1)) (a .pairs)) (same e)
         (subst (Counts (λ (x : ℕ × ℕ). SessionStands (modelOf (policyOf r)) (beginning (policyOf r)) (x .0) (x .1))) (sym pairs-are)
         (pairs-are-counted (modelOf (policyOf r)) (beginning (policyOf r)) _ _ (below r q sound) brought));

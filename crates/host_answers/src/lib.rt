@@ -5,7 +5,7 @@ ghost use Rattle.rules.specs.Answers.{reading};
 ghost use Rattle.replay.specs.Replay.{replayed};
 ghost use Rattle.analyser.specs.Answer.{told};
 ghost use Rattle.analyser.specs.Never.{Means};
-ghost use Rattle.live.specs.Lent.{outcomeNumber};
+ghost use Rattle.live.specs.Lent.{hostNumber};
 ghost use Rattle.host_answers.specs.Verdicts.{verdictNumber, verdictCode};
 use analyser::Verdict;
 use live::number_of;
@@ -18,7 +18,7 @@ pub fn replay_leak(
     sessions: &mut [u64],
     items: &mut [u64],
 ) -> u32
-    ensures { λ r. ⌜ r ≡ outcomeNumber (replayed (reading (now (file .entry))) (now (question .entry)) (now (rows .entry)) (now (sessions .entry)) (now (items .entry)) .outcome) ⌝ }
+    ensures { λ r. ⌜ r ≡ hostNumber (replayed (reading (now (file .entry))) (now (question .entry)) (now (rows .entry)) (now (sessions .entry)) (now (items .entry)) .refusal) ⌝ }
     ensures { λ r. ⌜ now (sessions .exit) ≡ replayed (reading (now (file .entry))) (now (question .entry)) (now (rows .entry)) (now (sessions .entry)) (now (items .entry)) .lent .sessions ⌝ }
     ensures { λ r. ⌜ now (items .exit) ≡ replayed (reading (now (file .entry))) (now (question .entry)) (now (rows .entry)) (now (sessions .entry)) (now (items .entry)) .lent .items ⌝ }
 {

@@ -2,7 +2,7 @@
 ghost use mathlib.Core.Path.{_≡_};
 ghost use lib.ListN.{length};
 ghost use Rattle.rules.specs.Answers.{reading, filled};
-ghost use Rattle.live.specs.Lent.{lentAs, outcomeNumber};
+ghost use Rattle.live.specs.Lent.{lentAs, hostNumber};
 ghost use Rattle.replay.specs.Replay.{replayed};
 ghost use Rattle.analyser.specs.Answer.{told};
 ghost use Rattle.analyser.specs.Never.{Means};
@@ -37,7 +37,7 @@ pub extern "C" fn rights_start(
     session: &mut u64,
     item: &mut u64,
 ) -> u32
-    ensures { λ r. ⌜ r ≡ outcomeNumber (hostStarted (reading (now (file .entry))) (lentAs (now (sessions .entry)) (now (items .entry)) record { session = now (session .entry); item = now (item .entry) }) .outcome) ⌝ }
+    ensures { λ r. ⌜ r ≡ hostNumber (hostStarted (reading (now (file .entry))) (lentAs (now (sessions .entry)) (now (items .entry)) record { session = now (session .entry); item = now (item .entry) }) .refusal) ⌝ }
     ensures { λ r. ⌜ lentAs (now (sessions .exit)) (now (items .exit)) record { session = now (session .exit); item = now (item .exit) } ≡ hostStarted (reading (now (file .entry))) (lentAs (now (sessions .entry)) (now (items .entry)) record { session = now (session .entry); item = now (item .entry) }) .lent ⌝ }
 {
     host_steps::start(file, sessions, items, session, item)
@@ -53,7 +53,7 @@ pub extern "C" fn rights_step(
     item: &mut u64,
     row: u64,
 ) -> u32
-    ensures { λ r. ⌜ r ≡ outcomeNumber (hostStepped (reading (now (file .entry))) (lentAs (now (sessions .entry)) (now (items .entry)) record { session = now (session .entry); item = now (item .entry) }) row .outcome) ⌝ }
+    ensures { λ r. ⌜ r ≡ hostNumber (hostStepped (reading (now (file .entry))) (lentAs (now (sessions .entry)) (now (items .entry)) record { session = now (session .entry); item = now (item .entry) }) row .refusal) ⌝ }
     ensures { λ r. ⌜ lentAs (now (sessions .exit)) (now (items .exit)) record { session = now (session .exit); item = now (item .exit) } ≡ hostStepped (reading (now (file .entry))) (lentAs (now (sessions .entry)) (now (items .entry)) record { session = now (session .entry); item = now (item .entry) }) row .lent ⌝ }
 {
     host_steps::step(file, sessions, items, session, item, row)
@@ -70,7 +70,7 @@ pub extern "C" fn rights_steps(
     rows: &[u64],
     done: &mut u64,
 ) -> u32
-    ensures { λ r. ⌜ r ≡ outcomeNumber (hostSteps (reading (now (file .entry))) (lentAs (now (sessions .entry)) (now (items .entry)) record { session = now (session .entry); item = now (item .entry) }) (now (rows .entry)) .outcome) ⌝ }
+    ensures { λ r. ⌜ r ≡ hostNumber (hostSteps (reading (now (file .entry))) (lentAs (now (sessions .entry)) (now (items .entry)) record { session = now (session .entry); item = now (item .entry) }) (now (rows .entry)) .refusal) ⌝ }
     ensures { λ r. ⌜ lentAs (now (sessions .exit)) (now (items .exit)) record { session = now (session .exit); item = now (item .exit) } ≡ hostSteps (reading (now (file .entry))) (lentAs (now (sessions .entry)) (now (items .entry)) record { session = now (session .entry); item = now (item .entry) }) (now (rows .entry)) .lent ⌝ }
     ensures { λ r. ⌜ now (done .exit) ≡ hostSteps (reading (now (file .entry))) (lentAs (now (sessions .entry)) (now (items .entry)) record { session = now (session .entry); item = now (item .entry) }) (now (rows .entry)) .count ⌝ }
 {
@@ -86,7 +86,7 @@ pub extern "C" fn rights_replay(
     sessions: &mut [u64],
     items: &mut [u64],
 ) -> u32
-    ensures { λ r. ⌜ r ≡ outcomeNumber (replayed (reading (now (file .entry))) (now (question .entry)) (now (rows .entry)) (now (sessions .entry)) (now (items .entry)) .outcome) ⌝ }
+    ensures { λ r. ⌜ r ≡ hostNumber (replayed (reading (now (file .entry))) (now (question .entry)) (now (rows .entry)) (now (sessions .entry)) (now (items .entry)) .refusal) ⌝ }
     ensures { λ r. ⌜ now (sessions .exit) ≡ replayed (reading (now (file .entry))) (now (question .entry)) (now (rows .entry)) (now (sessions .entry)) (now (items .entry)) .lent .sessions ⌝ }
     ensures { λ r. ⌜ now (items .exit) ≡ replayed (reading (now (file .entry))) (now (question .entry)) (now (rows .entry)) (now (sessions .entry)) (now (items .entry)) .lent .items ⌝ }
 {

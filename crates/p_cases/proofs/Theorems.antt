@@ -20,7 +20,7 @@ use Rattle.verdict.specs.Verdict.{reached, reachedFrom, helpers, allBrought, pa
 use Rattle.allowed.specs.Allowed.{says, opening, changing, making, modifying, accessing, userValue, modelOf}
 use Rattle.cells.specs.Row.{partsOf, bitsOf, stepOf}
 use Rattle.cells.specs.Cell.{placeOf as cellOf, openCell, closedCell, itemCell, sessionIn, sessionAt, itemIn, itemAt}
-use Rattle.live.specs.Lent.{outcomeNumber, refused, done, tested as testedStep, ofSession, ofItem, numbers, allGiven, left}
+use Rattle.live.specs.Lent.{hostNumber, refused, done, tested as testedStep, ofSession, ofItem, numbers, allGiven, left}
 use Rattle.steps.specs.Step.{sessionNow, itemNow, withSession, withItem, sessionGiven, itemGiven, opening as openingStep, making as makingStep, modifying as modifyingStep, accessing as accessingStep, byKind, stepIn}
 use Rattle.starting.specs.Start.{over, sessionCells, itemCells, nothingGiven, started, beginning}
 use Rattle.replay.specs.Question.{partsOf as questionOf, whoOf, whichOf, whoAmong, whichAmong, partsAsk, asks}
@@ -37,5 +37,5 @@ unfolding counterFile ofUser1 bitAt numberOf numberAt fieldAt tab sizeOf inSet a
 counter-safe = refl
 
 pub paper-cases : PaperCases
-unfolding table allHold counterFile outcomeNumber firstStep row shownRows shorterRows ofUser0 ofUser1 verdictNumber isTold replayNumber widest bitAt numberOf numberAt fieldAt tab sizeOf inSet allBelow subsetOf properOf unless first tested andThen taken within field check rowsRead rows pair via zeros ended readFile fewestFrom fewestBits bitsFor codes width opOf firstOf secondOf holderOf placeOf mayUse ofHolder names atomic nodeOk count headFormat largest attrFormat classFormat listsFormat valueFormat sessionFormat formulaFormat policyFormat answered reading attrOf partOf heldBy operand sizeOfOperand compared nodeSays said holds inLists listed someBelow countBelow opensWith changesTo makesWith modifiesTo accesses sessionOf itemOf begin tableFrom tableOf inTable round rounds closure reached reachedFrom helpers allBrought pairs canMake canModify made itemFrom ofOne whoCan whichCan leaks values says opening changing making modifying accessing userValue modelOf partsOf bitsOf stepOf cellOf openCell closedCell itemCell sessionIn sessionAt itemIn itemAt refused done testedStep ofSession ofItem numbers allGiven left sessionNow itemNow withSession withItem sessionGiven itemGiven openingStep makingStep modifyingStep accessingStep byKind stepIn over sessionCells itemCells nothingGiven started beginning questionOf whoOf whichOf whoAmong whichAmong partsAsk asks ranAll further rowsIn isOf whoFits whichFits stepFits lastFits judged played replayed sessionValues itemValues rowsNeeded refusedAnswer decided told
+unfolding table allHold counterFile hostNumber firstStep row shownRows shorterRows ofUser0 ofUser1 verdictNumber isTold replayNumber widest bitAt numberOf numberAt fieldAt tab sizeOf inSet allBelow subsetOf properOf unless first tested andThen taken within field check rowsRead rows pair via zeros ended readFile fewestFrom fewestBits bitsFor codes width opOf firstOf secondOf holderOf placeOf mayUse ofHolder names atomic nodeOk count headFormat largest attrFormat classFormat listsFormat valueFormat sessionFormat formulaFormat policyFormat answered reading attrOf partOf heldBy operand sizeOfOperand compared nodeSays said holds inLists listed someBelow countBelow opensWith changesTo makesWith modifiesTo accesses sessionOf itemOf begin tableFrom tableOf inTable round rounds closure reached reachedFrom helpers allBrought pairs canMake canModify made itemFrom ofOne whoCan whichCan leaks values says opening changing making modifying accessing userValue modelOf partsOf bitsOf stepOf cellOf openCell closedCell itemCell sessionIn sessionAt itemIn itemAt refused done testedStep ofSession ofItem numbers allGiven left sessionNow itemNow withSession withItem sessionGiven itemGiven openingStep makingStep modifyingStep accessingStep byKind stepIn over sessionCells itemCells nothingGiven started beginning questionOf whoOf whichOf whoAmong whichAmong partsAsk asks ranAll further rowsIn isOf whoFits whichFits stepFits lastFits judged played replayed sessionValues itemValues rowsNeeded refusedAnswer decided told
 paper-cases = (refl, λ p e. safe-is-never counterFile ofUser1 9 p e counter-safe)

@@ -13,7 +13,7 @@ use Rattle.rules.specs.Answers.{Answer, refusal, rules, reading}
 use Rattle.allowed.specs.Allowed.{modelOf}
 use Rattle.cells.specs.Row.{bitsOf}
 use Rattle.cells.specs.declared.row.Row.{Row}
-use Rattle.live.specs.Lent.{outcomeNumber}
+use Rattle.live.specs.Lent.{hostNumber}
 use Rattle.steps.specs.Step.{stepIn}
 use Rattle.starting.specs.Start.{started}
 use Rattle.replay.specs.Replay.{replayed}
@@ -31,7 +31,7 @@ counterFile =
 unfoldable pub firstStep : Answer → ℕ → Row → ℕ
 firstStep (refusal n) cells row = n
 firstStep (rules p) cells row =
-    outcomeNumber (stepIn (modelOf p) (started (rules p) (replicate cells 0) (replicate cells 0) .lent) (bitsOf row) .outcome)
+    hostNumber (stepIn (modelOf p) (started (rules p) (replicate cells 0) (replicate cells 0) .lent) (bitsOf row) .refusal)
 
 -- the row of a step
 unfoldable pub row : ℕ → ℕ → ℕ → ℕ → ℕ
@@ -64,7 +64,7 @@ isTold t verdict pairs values = eqb (verdictNumber (t .verdict)) verdict && (eqb
 
 -- the number that replaying rows of the counter file gets, 0 for replayed
 unfoldable pub replayNumber : List ℕ → List ℕ → ℕ
-replayNumber question rows = outcomeNumber (replayed (reading counterFile) question rows (replicate 4 0) (replicate 4 0) .outcome)
+replayNumber question rows = hostNumber (replayed (reading counterFile) question rows (replicate 4 0) (replicate 4 0) .refusal)
 
 -- rules with one set of 8 for sessions and one for items
 unfoldable pub widest : Policy

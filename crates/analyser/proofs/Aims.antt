@@ -20,6 +20,7 @@ use Rattle.runs.specs.Outcome.{stop}
 use Rattle.verdict.proofs.Below.{not-both}
 use Rattle.allowed.specs.Allowed.{modelOf}
 use Rattle.starting.specs.Start.{beginning}
+use Rattle.replay.specs.Asked.{AsksWho, one-session, one-user, any-session, AsksItem, one-item, any-item}
 use Rattle.replay.specs.Question.{whoOf, whichOf}
 use Rattle.replay.specs.declared.question.Question.{Question}
 use Rattle.search.specs.Sessions.{sessionsFound}
@@ -35,7 +36,7 @@ use Rattle.analyser.proofs.Widths.{users-are, beginning-items, beginnin
 use Rattle.user_searches.proofs.UsersReach.{user-is, user-lane}
 use Rattle.analyser.proofs.ItemsReach.{ItemSearch, one-search, any-search, good-as}
 use Rattle.analyser.proofs.Hits.{Hit}
-use Rattle.analyser.proofs.Asked.{WhoAsked, one-session, one-user, any-one, WhichAsked, one-item, any-item, Asks, which-item, which-anything, is-session, is-user, is-anyone, session-found, who-found-session, who-found-user, who-found-any, item-found-one, item-found-any, heldOf, aim-owner-session, aim-owner-user, aim-value, aim-permission, aim-items, aim-kind, aim-session, stands-open, held-byte, below, few-users, tested}
+use Rattle.analyser.proofs.Asked.{Asks, session-found, who-found-session, who-found-user, who-found-any, item-found-one, item-found-any, heldOf, aim-owner-session, aim-owner-user, aim-value, aim-permission, aim-items, aim-kind, aim-session, stands-open, held-byte, below, few-users, tested}
 
 named-some : (by : List ℕ) (v : ℕ) → named by v ≡ true → 0 < getD by v 0
 unfolding named
@@ -49,8 +50,8 @@ module _ (r : Rules) (q : Question) (sound : Sound (policyOf r)) (users : List F
   few-items : length (beginning (policyOf r) .items) ≤ 32
   few-items = rw (beginning-items (policyOf r)) (sound .items)
 
-  pub item-search : WhichAsked (policyOf r) q → ItemSearch (modelOf (policyOf r)) (beginning (policyOf r)) users (whichOf q) (itemFound r (anyHas users) q)
-  item-search (one-item e h) =
+  pub item-search : AsksItem (policyOf r) (q .itemkind) (q .item) (whichOf q) → ItemSearch (modelOf (policyOf r)) (beginning (policyOf r)) users (whichOf q) (itemFound r (anyHas users) q)
+  item-search (one-item e h w) =
       let i : q .item < length (beginning (policyOf r) .items) = rw (beginning-items (policyOf r)) h in
       let g : getD (beginning (policyOf r) .items) (q .item) 0 ≡ getD (r .items .values) (q .item) 0 =
       ap (λ (l : List ℕ). getD l (q .item) 0) (beginning-items (policyOf r)) ∙ rules-item r (q .item) h
@@ -58,15 +59,16 @@ module _ (r : Rules) (q : Question) (sound : Sound (policyOf r)) (users : List F
       let f : oneFound (modelOf (policyOf r)) (anyHas users) (q .item) (getD (beginning (policyOf r) .items) (q .item) 0) ≡ itemFound r (anyHas users) q =
       ap (oneFound (modelOf (policyOf r)) (anyHas users) (q .item)) g ∙ sym (item-found-one r q (anyHas users) e)
       in
-      rw (which-item (policyOf r) q e)
+      rw w
       (subst (ItemSearch (modelOf (policyOf r)) (beginning (policyOf r)) users (item (q .item))) f
       (one-search (modelOf (policyOf r)) (beginning (policyOf r)) _ _ (below r q sound) (sessions-few (policyOf r) sound) (items-few (policyOf r) sound) (few-users r q sound) users found
       (q .item) i few-items))
-  item-search (any-item d) =
+  item-search (any-item e h w) =
+      let d : q .itemkind ≡ 0 → ⊥ = λ n. omega arith in
       let f : anyFound (modelOf (policyOf r)) (anyHas users) (beginning (policyOf r) .items) ≡ itemFound r (anyHas users) q =
       ap (anyFound (modelOf (policyOf r)) (anyHas users)) (beginning-items (policyOf r) ∙ rules-items r) ∙ sym (item-found-any r q (anyHas users) d)
       in
-      rw (which-anything (policyOf r) q d)
+      rw w
       (subst (ItemSearch (modelOf (policyOf r)) (beginning (policyOf r)) users anything) f
       (any-search (modelOf (policyOf r)) (beginning (policyOf r)) _ _ (below r q sound) (sessions-few (policyOf r) sound) (items-few (policyOf r) sound) (few-users r q sound) users found
       few-items))
@@ -89,26 +91,26 @@ module _ (r : Rules) (q : Question) (sound : Sound (policyOf r)) (users : List F
     }
 
     -- who is asked about can have the value
-    who-aimed : WhoAsked (policyOf r) q → (v : ℕ) → v < 256 → tested r q sound users found v ≡ true
+    who-aimed : AsksWho (policyOf r) (q .whokind) (q .who) (whoOf q) → (v : ℕ) → v < 256 → tested r q sound users found v ≡ true
         → WhoAimed (modelOf (policyOf r)) (beginning (policyOf r)) by (sessionFound r q) (aimOf r q v) (whoOf q)
-    who-aimed (one-session e h) v l t =
-        rw (is-session (policyOf r) q e, aim-owner-session r q v e, aim-value r q v l) (
+    who-aimed (one-session e h w) v l t =
+        rw (w, aim-owner-session r q v e, aim-value r q v l) (
           aim-kind r q v ∙ e,
           aim-session r q v,
           (heldOf r q, stands-open r q sound h, held-byte r q sound h, session-found r q e),
           sym (who-found-session r q users (anyHas users) (sessionFound r q) v e) ∙ t,
         )
-    who-aimed (one-user e h) v l t =
+    who-aimed (one-user e h w) v l t =
         let few : q .who < 16 = omega (arith, h, sound .users) in
         let i : q .who < modelOf (policyOf r) .users = omega (arith, h, users-are (policyOf r)) in
-        rw (is-user (policyOf r) q e, aim-owner-user r q v e, aim-value r q v l) (
+        rw (w, aim-owner-user r q v e, aim-value r q v l) (
           aim-kind r q v ∙ e,
           refl,
           i,
           sym (ap (λ (x : Found). laneOf (x .seen) v) (user-of (q .who) i)) ∙ sym (who-found-user r q users (anyHas users) (sessionFound r q) v e few) ∙ t,
         )
-    who-aimed (any-one e) v l t =
-        rw (is-anyone (policyOf r) q e, aim-value r q v l)
+    who-aimed (any-session e h w) v l t =
+        rw (w, aim-value r q v l)
         (aim-kind r q v ∙ e, names .named-is v l ∙ sym (who-found-any r q users (anyHas users) (sessionFound r q) v e) ∙ t)
 
     -- what the analyser has found where there is a hit
@@ -116,7 +118,7 @@ module _ (r : Rules) (q : Question) (sound : Sound (policyOf r)) (users : List F
         → Hit (modelOf (policyOf r)) (q .permission) (tested r q sound users found) (itemFound r (anyHas users) q) i v
         → Aimed (modelOf (policyOf r)) (beginning (policyOf r)) users by (itemFound r (anyHas users) q) i (sessionFound r q) (aimOf r q v) (whoOf q) (whichOf q)
     hit-aimed a b i v h =
-        let I = item-search (a .which) in
+        let I = item-search (a .item) in
         record {
           brought = b;
           ready = ready;

@@ -1,14 +1,12 @@
 -- What a question asks. In order: who and which, where it asks something; one session's search; what is searched and aimed at, by kind; whether one
 -- that is asked about can have a value. Not here: the search of items (Aims).
 use mathlib.Core.Path.{_≡_, refl, sym, ap, _∙_, subst}
-use mathlib.Core.Bool.{Bool, true, _&&_, cond}
+use mathlib.Core.Bool.{Bool, true}
 use mathlib.Core.Logic.{_↔_}
 use mathlib.Core.List.{List}
 use Prim.Native.Nat.{ℕ, _≤_, _<_}
-use native.Mathlib.Decide.{ℕ-discrete}
 use native.Mathlib.Omega.{arith}
-use borrow.Author.Tests.{ltb-true, lt-ltb, eq-eqb, ne-eqb}
-use lib.Dec.{ltb, eqb}
+use borrow.Author.Tests.{lt-ltb, eq-eqb, ne-eqb}
 use lib.ListN.{length, getD}
 use Rattle.lanes.specs.Lanes.{laneOf}
 use Rattle.policy.specs.Policy.{Session, Policy}
@@ -18,16 +16,16 @@ use Rattle.lists.specs.Sound.{Sound, startingSession}
 use Rattle.lists.proofs.Laws.{listed-byte}
 use Rattle.runs.specs.Model.{Model}
 use Rattle.runs.specs.State.{opened, State, sessionAt}
-use Rattle.runs.specs.Grant.{session, user, anyone, item, anything}
+use Rattle.runs.specs.Grant.{session}
 use Rattle.runs.specs.Reach.{Reach, ReachFrom, WhoReach, AskedWho, AskedWhich}
 use Rattle.runs.specs.Outcome.{Below}
-use Rattle.verdict.proofs.Below.{not-both, both-of}
 use Rattle.verdict.proofs.Decided.{star-map, changes-to}
 use Rattle.allowed.specs.Allowed.{modelOf}
 use Rattle.starting.specs.Start.{beginning}
-use Rattle.replay.specs.Question.{partsOf, whoOf, whichOf, whoAmong, whichAmong, partsAsk, asks}
+use Rattle.replay.specs.Asked.{AsksWho, one-session, one-user, any-session, AsksItem, one-item, any-item}
+use Rattle.replay.specs.Question.{partsOf, whoOf, whichOf, asks}
 use Rattle.replay.specs.declared.question.Question.{Question}
-use Rattle.replay.proofs.Laws.{session-among, user-among, nobody-among, who-session, who-user, who-anyone}
+use Rattle.replay.proofs.Asked.{who-asked, item-asked, parts-asked}
 use Rattle.search.specs.Sessions.{ownFound}
 use Rattle.search.specs.Items.{oneFound, anyFound}
 use Rattle.search.specs.Claims.{Change}
@@ -39,87 +37,28 @@ use Rattle.goal.specs.Asked.{itemFound, sessionFound, whoFound, aimOf}
 use Rattle.analyser.proofs.Widths.{users-are, beginning-items, beginning-long, beginning-session, sessions-few, beginning-below, rules-session}
 use Rattle.user_searches.proofs.UsersReach.{user-lane, lane-user, any-is}
 
--- who is asked about
-pub data WhoAsked (p : Policy) (q : Question) : Type 0 where
-  one-session : q .whokind ≡ 0 → q .who < length (p .sessions) → WhoAsked p q
-  one-user : q .whokind ≡ 1 → q .who < length (p .users) → WhoAsked p q
-  any-one : q .whokind ≡ 2 → WhoAsked p q
-
--- which item
-pub data WhichAsked (p : Policy) (q : Question) : Type 0 where
-  one-item : q .itemkind ≡ 0 → q .item < length (p .items) → WhichAsked p q
-  any-item : (q .itemkind ≡ 0 → ⊥) → WhichAsked p q
-
 -- a question that asks something
 pub record Asks (p : Policy) (q : Question) : Type 0 where
-  pub who : WhoAsked p q
-  pub which : WhichAsked p q
+  pub who : AsksWho p (q .whokind) (q .who) (whoOf q)
+  pub item : AsksItem p (q .itemkind) (q .item) (whichOf q)
   pub permission : q .permission < p .head .permissions
 
 module _ (p : Policy) (q : Question) where
-  who-among : whoAmong (length (p .sessions)) (length (p .users)) q ≡ true → WhoAsked p q
-  who-among t = first (ℕ-discrete (q .whokind) 0)
-    where
-      third : (q .whokind ≡ 0 → ⊥) → (q .whokind ≡ 1 → ⊥) → Dec (q .whokind ≡ 2) → WhoAsked p q
-      third z o (yes e) = any-one e
-      third z o (no d) = not-both (nobody-among (length (p .sessions)) (length (p .users)) q z o d) t
+  pub asked-who : AsksWho p (q .whokind) (q .who) (whoOf q) → AskedWho (modelOf p) (beginning p) (whoOf q)
+  asked-who (one-session e h w) = rw w (omega (arith, h, beginning-long p))
+  asked-who (one-user e h w) = rw w tt
+  asked-who (any-session e h w) = rw w tt
 
-      second : (q .whokind ≡ 0 → ⊥) → Dec (q .whokind ≡ 1) → WhoAsked p q
-      second z (yes e) = one-user e (ltb-true (q .who) (length (p .users)) (sym (user-among (length (p .sessions)) (length (p .users)) q z e) ∙ t))
-      second z (no d) = third z d (ℕ-discrete (q .whokind) 2)
-
-      first : Dec (q .whokind ≡ 0) → WhoAsked p q
-      first (yes e) = one-session e (ltb-true (q .who) (length (p .sessions)) (sym (session-among (length (p .sessions)) (length (p .users)) q e) ∙ t))
-      first (no d) = second d (ℕ-discrete (q .whokind) 1)
-
-  which-among : whichAmong (length (p .items)) q ≡ true → WhichAsked p q
-  unfolding whichAmong
-  which-among t = go (ℕ-discrete (q .itemkind) 0)
-    where
-      go : Dec (q .itemkind ≡ 0) → WhichAsked p q
-      go (yes e) =
-          one-item e (ltb-true (q .item) (length (p .items))
-          (sym (ap (λ (b : Bool). cond b (ltb (q .item) (length (p .items))) (eqb (q .item) 0)) (eq-eqb (q .itemkind) 0 e)) ∙ t))
-      go (no d) = any-item d
-
-  pub which-item : q .itemkind ≡ 0 → whichOf q ≡ item (q .item)
-  unfolding whichOf
-  which-item e = rw (eq-eqb (q .itemkind) 0 e) refl
-
-  pub which-anything : (q .itemkind ≡ 0 → ⊥) → whichOf q ≡ anything
-  unfolding whichOf
-  which-anything d = rw (ne-eqb (q .itemkind) 0 d) refl
-
-  pub is-session : q .whokind ≡ 0 → whoOf q ≡ session (q .who)
-  is-session e = who-session q e
-
-  pub is-user : q .whokind ≡ 1 → whoOf q ≡ user (q .who)
-  is-user e = who-user q (λ z. omega arith) e
-
-  pub is-anyone : q .whokind ≡ 2 → whoOf q ≡ anyone
-  is-anyone e = who-anyone q (λ z. omega arith) (λ z. omega arith)
-
-  pub asked-who : WhoAsked p q → AskedWho (modelOf p) (beginning p) (whoOf q)
-  asked-who (one-session e h) = rw (is-session e) (omega (arith, h, beginning-long p))
-  asked-who (one-user e h) = rw (is-user e) tt
-  asked-who (any-one e) = rw (is-anyone e) tt
-
-  pub asked-which : WhichAsked p q → AskedWhich (modelOf p) (beginning p) (whichOf q)
-  asked-which (one-item e h) = rw (which-item e) (rw (beginning-items p) h)
-  asked-which (any-item d) = rw (which-anything d) tt
+  pub asked-which : AsksItem p (q .itemkind) (q .item) (whichOf q) → AskedWhich (modelOf p) (beginning p) (whichOf q)
+  asked-which (one-item e h w) = rw w (rw (beginning-items p) h)
+  asked-which (any-item e h w) = rw w tt
 
 pub asks-something : (p : Policy) (question : List ℕ) → asks p question ≡ true → Asks p (partsOf question)
-unfolding asks partsAsk
-asks-something p question t =
-    let q = partsOf question in
-    let a = eqb (q .spares) 0 in
-    let b = whoAmong (length (p .sessions)) (length (p .users)) q in
-    let c = whichAmong (length (p .items)) q in
-    let d = ltb (q .permission) (p .head .permissions) in
-    let (t₀, t₁) = both-of (eqb (length question) 3) (a && b && c && d) t in
-    let (t₂, t₃) = both-of (a && b && c) d t₁ in
-    let (t₄, t₅) = both-of (a && b) c t₂ in
-    record { who = who-among p q (both-of a b t₄ .1); which = which-among p q t₅; permission = ltb-true (q .permission) (p .head .permissions) t₃ }
+asks-something p question t = let (_, _, who, which, permission) = parts-asked p question t in record {
+  who = who-asked p (partsOf question) who;
+  item = item-asked p (partsOf question) which;
+  permission = permission;
+}
 
 -- one session's own values
 own-lane : (m : Model) (u held v : ℕ) → ((w : ℕ) → m .sessionValue w ≡ true → w < 256) → held < 256 → v < 256 → (laneOf (ownFound m u held .seen) v ≡ true) ↔ ReachFrom m u held v
@@ -225,17 +164,17 @@ module _ (r : Rules) (q : Question) where
       abbrev pub tested : ℕ → Bool
       tested = whoFound users (anyHas users) (sessionFound r q) q
 
-      pub who-tests : WhoAsked (policyOf r) q → (v : ℕ) → v < 256 → (tested v ≡ true) ↔ ((u : ℕ) × WhoReach (modelOf (policyOf r)) (beginning (policyOf r)) (whoOf q) u v)
-      who-tests (one-session e h) v l =
-          rw (is-session (policyOf r) q e, who-found-session users (anyHas users) (sessionFound r q) v e, session-found e)
+      pub who-tests : AsksWho (policyOf r) (q .whokind) (q .who) (whoOf q) → (v : ℕ) → v < 256 → (tested v ≡ true) ↔ ((u : ℕ) × WhoReach (modelOf (policyOf r)) (beginning (policyOf r)) (whoOf q) u v)
+      who-tests (one-session e h w) v l =
+          rw (w, who-found-session users (anyHas users) (sessionFound r q) v e, session-found e)
           (own-tests (modelOf (policyOf r)) (beginning (policyOf r)) (q .who) ownerOf heldOf v session-byte (stands-open h) (held-byte h) l)
-      who-tests (one-user e h) v l =
+      who-tests (one-user e h w) v l =
           let few : q .who < 16 = omega (arith, h, sound .users) in
-          rw (is-user (policyOf r) q e, who-found-user users (anyHas users) (sessionFound r q) v e few) (
+          rw (w, who-found-user users (anyHas users) (sessionFound r q) v e few) (
             λ t. (q .who, (refl, user-lane (modelOf (policyOf r)) (beginning (policyOf r)) _ _ below (sessions-few (policyOf r) sound) few-users users found (q .who) v few l t .1)),
             λ (u, (z, s)). lane-user (modelOf (policyOf r)) (beginning (policyOf r)) _ _ below (sessions-few (policyOf r) sound) few-users users found (q .who) v
                 (subst (λ (a : ℕ). Reach (modelOf (policyOf r)) a v) z s),
           )
-      who-tests (any-one e) v l =
-          rw (is-anyone (policyOf r) q e, who-found-any users (anyHas users) (sessionFound r q) v e)
+      who-tests (any-session e h w) v l =
+          rw (w, who-found-any users (anyHas users) (sessionFound r q) v e)
           (any-is (modelOf (policyOf r)) (beginning (policyOf r)) _ _ below (sessions-few (policyOf r) sound) few-users users found v l)

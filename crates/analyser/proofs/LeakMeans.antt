@@ -13,21 +13,20 @@ use Rattle.lists.specs.Sound.{Sound, startingSession}
 use Rattle.lists.proofs.Laws.{listed-byte}
 use Rattle.runs.specs.State.{begin}
 use Rattle.runs.specs.Reach.{Brought}
-use Rattle.verdict.specs.Verdict.{allBrought, leaks}
+use Rattle.verdict.specs.Verdict.{leaks}
 use Rattle.verdict.proofs.Theorems.{brought-is-computed}
 use Rattle.allowed.specs.Allowed.{modelOf}
 use Rattle.starting.specs.Start.{beginning}
-use Rattle.replay.specs.Question.{partsOf, whoOf, whichOf}
-use Rattle.replay.specs.Claims.{RunLeak}
+use Rattle.cells.specs.Leak.{IsLeak}
+use Rattle.replay.specs.Question.{whoOf, whichOf}
 use Rattle.replay.specs.declared.question.Question.{Question}
 use Rattle.search.specs.declared.queue.Found.{Found}
 use Rattle.session_rows.specs.Writing.{writingOf}
-use Rattle.leak.specs.Claims.{IsLeak}
 use Rattle.leak.proofs.Theorems.{leak-is-written}
-use Rattle.analyser.specs.Answer.{sessionValues, itemValues, rowsNeeded}
-use Rattle.user_searches.specs.Found.{UsersFound, anyHas, allFound}
+use Rattle.analyser.specs.Answer.{sessionValues, itemValues, rowsNeeded, startsBrought}
+use Rattle.user_searches.specs.Found.{UsersFound, anyHas}
 use Rattle.goal.specs.Asked.{itemFound, sessionFound, aimOf}
-use Rattle.analyser.specs.Decide.{leakPlace, leakValue, LeakLeft}
+use Rattle.analyser.specs.Decide.{startsFound, leakPlace, leakValue, LeakLeft}
 use Rattle.analyser.proofs.Widths.{needed-is, sessions-few, items-few, users-are}
 use Rattle.user_searches.proofs.UsersReach.{all-agree}
 use Rattle.analyser.proofs.Hits.{Hit, hit-here, hits-agree}
@@ -36,8 +35,8 @@ use Rattle.analyser.proofs.Aims.{item-search, hit-aimed, pen-stands}
 
 module _ (r : Rules) (q : Question) (sound : Sound (policyOf r)) (users : List Found) (found : UsersFound (modelOf (policyOf r)) users) where
   -- the starting sessions were all found exactly where they could have been brought about
-  pub all-found-agree : allFound users (sessionsOf (r .sessions)) ≡ allBrought (modelOf (policyOf r)) (sessionValues (policyOf r)) (beginning (policyOf r) .sessions)
-  unfolding beginning begin policyOf startingSession
+  pub all-found-agree : startsFound r users ≡ startsBrought (policyOf r)
+  unfolding startsBrought beginning begin policyOf startingSession
   all-found-agree =
       all-agree (modelOf (policyOf r)) (beginning (policyOf r)) _ _ (below r q sound) (sessions-few (policyOf r) sound) (few-users r q sound) users found (sessionsOf (r .sessions))
       (λ j h. (
@@ -45,7 +44,8 @@ module _ (r : Rules) (q : Question) (sound : Sound (policyOf r)) (users : List F
         listed-byte (policyOf r .lists .ofSession) (startingSession (policyOf r) j .value) (sound .session-value j h),
       ))
 
-  pub all-brought : allFound users (sessionsOf (r .sessions)) ≡ true → Brought (modelOf (policyOf r)) (beginning (policyOf r))
+  pub all-brought : startsFound r users ≡ true → Brought (modelOf (policyOf r)) (beginning (policyOf r))
+  unfolding startsBrought
   all-brought t = brought-is-computed (modelOf (policyOf r)) (beginning (policyOf r)) _ _ (below r q sound) .0 (sym all-found-agree ∙ t)
 
   leak-hit : leakPlace r users q < 256
@@ -60,8 +60,8 @@ module _ (r : Rules) (q : Question) (sound : Sound (policyOf r)) (users : List F
     unfolding leakPlace
     place-agrees =
         hits-agree (modelOf (policyOf r)) (beginning (policyOf r)) _ _ (below r q sound) (sessions-few (policyOf r) sound) (items-few (policyOf r) sound) users brought (whoOf q)
-        (tested r q sound users found) (who-tests r q sound users found (asked .who)) (whichOf q) (asked-which (policyOf r) q (asked .which)) (itemFound r (anyHas users) q)
-        (item-search r q sound users found (asked .which)) (q .permission)
+        (tested r q sound users found) (who-tests r q sound users found (asked .who)) (whichOf q) (asked-which (policyOf r) q (asked .item)) (itemFound r (anyHas users) q)
+        (item-search r q sound users found (asked .item)) (q .permission)
 
     -- what is written is a leak, and short
     pub left-leaks : (before after : List ℕ) (n : ℕ) → rowsNeeded (policyOf r) ≤ length before → leakPlace r users q < 256 → LeakLeft r users q before after n
@@ -81,9 +81,3 @@ module _ (r : Rules) (q : Question) (sound : Sound (policyOf r)) (users : List F
               (subst (IsLeak (modelOf (policyOf r)) (beginning (policyOf r)) (whoOf q) (whichOf q) (aimOf r q (leakValue r users q) .permission)) (sym (L .front)) x),
           omega (arith, e, y, long, front),
         )
-
--- the same of a question's bytes
-pub run-leak : (r : Rules) (question rows : List ℕ)
-    → IsLeak (modelOf (policyOf r)) (beginning (policyOf r)) (whoOf (partsOf question)) (whichOf (partsOf question)) (partsOf question .permission) rows
-    → RunLeak (policyOf r) question rows
-run-leak r question rows L = record { before = L .before; last = L .last; rows-are = L .rows-are; state = L .state; carried = L .carried; fits = L .fits; plain = L .plain }

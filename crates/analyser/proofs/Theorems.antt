@@ -1,99 +1,136 @@
--- The claims of specs/Claims. In order: what a verdict says of its tests; safe; leak; the rows that are lent.
-use mathlib.Core.Path.{_≡_, refl, sym, ap, _∙_}
-use mathlib.Core.Bool.{Bool, true, false, not, cond}
+-- The claims of specs/Claims. In order: the computed verdict and runs; demand 3; the numbers; what is accepted.
+use mathlib.Core.Path.{_≡_, refl, sym, ap, _∙_, subst}
+use mathlib.Core.Bool.{Bool, true, false, cond}
+use mathlib.Core.Logic.{_⊎_, _↔_}
 use mathlib.Core.List.{List}
 use Prim.Native.Nat.{ℕ}
 use native.Mathlib.Omega.{arith}
-use borrow.Author.Tests.{le-ltb}
-use lib.Dec.{ltb}
+use lib.ListN.{length, take}
 use Rattle.policy.specs.Policy.{Policy}
-use Rattle.rules.specs.Answers.{Answer as Read, rules}
+use Rattle.rules.specs.Answers.{reading}
+use Rattle.rules.proofs.Theorems.{bytes-again, rules-again}
 use Rattle.lists.specs.Sound.{Sound}
 use Rattle.runs.specs.Grant.{Leak}
-use Rattle.verdict.specs.Verdict.{allBrought, leaks}
+use Rattle.runs.proofs.Theorems.{no-step-is-no-leak}
+use Rattle.verdict.specs.Verdict.{leaks}
 use Rattle.verdict.proofs.Theorems.{verdict-is-computed, brought-is-computed}
 use Rattle.allowed.specs.Allowed.{modelOf}
+use Rattle.cells.specs.Leak.{IsLeak}
 use Rattle.steps.proofs.Files.{file-sound}
+use Rattle.steps.proofs.Theorems.{step-is-the-table, files-are-bytes}
 use Rattle.starting.specs.Start.{beginning}
+use Rattle.starting.proofs.Theorems.{start-is-exact}
 use Rattle.replay.specs.Question.{partsOf, whoOf, whichOf, asks}
-use Rattle.analyser.specs.Answer.{sessionValues, itemValues, rowsNeeded, Told, refused, decided, told}
-use Rattle.analyser.specs.Claims.{SafeIsNever, LeakIsReal, AnswerByFileAndQuestion}
-use Rattle.analyser.specs.declared.Verdict.{Verdict}
-use Rattle.analyser.specs.declared.Verdict.the-variants as Verdict
+use Rattle.replay.proofs.Asked.{of-asked, of-parts}
+use Rattle.analyser.specs.Answer.{sessionValues, itemValues, noVerdict, safeVerdict, leakVerdict, Told, refused, startsBrought, decided, told}
+use Rattle.analyser.specs.Never.{Never, AsksSomething}
+use Rattle.analyser.specs.Claims.{Demand3, SafeIsNever, NineIsExact, TenIsExact, ElevenIsExact, AcceptedIsJudged}
 use Rattle.analyser.proofs.Widths.{beginning-below}
 use Rattle.analyser.proofs.Asked.{asks-something, asked-who, asked-which}
+use Rattle.analyser.proofs.Decides.{refused-none, rules-same}
+use Rattle.analyser.proofs.Starts.{starts-could}
+use Rattle.analyser.proofs.Numbers.{Came, unread, nine, ten, eleven, judged, came, asks-is, decided-two, is-nine, is-ten, is-eleven, is-decided, is-judged}
 
--- a verdict that is no number, by four tests
-chosen : Bool → Bool → Bool → Told → Told
-chosen b a l t = cond (not b) (refused 9) (cond (not a) (refused 10) (cond l (refused 11) t))
+safe-not : (b : Bool) → cond b leakVerdict safeVerdict ≡ safeVerdict → b ≡ true → ⊥
+safe-not false e t = let z : _≡_ {A = ℕ} 0 1 = cc in omega arith
+safe-not true e t = omega arith
 
-refused-is : (n : ℕ) (v : Verdict) → ((k : ℕ) → v ≡ Verdict.Refused k → ⊥) → refused n .verdict ≡ v → ⊥
-unfolding refused
-refused-is n v d e = d n (sym e)
+not-safe : (b : Bool) → (b ≡ true → ⊥) → cond b leakVerdict safeVerdict ≡ safeVerdict
+not-safe false n = refl
+not-safe true n = absurd (n refl)
 
-past : {C : Type 0} (b a l : Bool) (t : Told) (v : Verdict) → ((k : ℕ) → v ≡ Verdict.Refused k → ⊥) → chosen b a l t .verdict ≡ v
-    → (b ≡ true → a ≡ true → t .verdict ≡ v → C) → C
-unfolding chosen
-past false a l t v d e k = absurd (refused-is 9 v d e)
-past true false l t v d e k = absurd (refused-is 10 v d e)
-past true true true t v d e k = absurd (refused-is 11 v d e)
-past true true false t v d e k = k refl refl e
-
-module _ (p : Policy) (question : List ℕ) (room : ℕ) where
+-- the computed verdict and runs
+module _ (p : Policy) (question : List ℕ) (sound : Sound p) (all : startsBrought p ≡ true) (asked : asks p question ≡ true) where
   abbrev leaking : Bool
   leaking =
       leaks (modelOf p) (beginning p) (sessionValues p) (itemValues p) (whoOf (partsOf question)) (whichOf (partsOf question)) (partsOf question .permission)
 
-  told-chosen : told (rules p) question room
-      ≡ chosen (allBrought (modelOf p) (sessionValues p) (beginning p .sessions)) (asks p question) (ltb room (rowsNeeded p)) (decided p question)
-  unfolding told chosen
-  told-chosen = refl
-
-  decided-verdict : decided p question .verdict ≡ cond leaking Verdict.Leak Verdict.Safe
+  decided-verdict : decided p question .verdict ≡ cond leaking leakVerdict safeVerdict
   unfolding decided
   decided-verdict = refl
 
-  -- what a verdict that is no number rests on
-  rests : {C : Type 0} (v : Verdict) → ((k : ℕ) → v ≡ Verdict.Refused k → ⊥) → told (rules p) question room .verdict ≡ v
-      → (allBrought (modelOf p) (sessionValues p) (beginning p .sessions) ≡ true → asks p question ≡ true → cond leaking Verdict.Leak Verdict.Safe ≡ v → C) → C
-  rests v d e k =
-      past _ _ _ (decided p question) v d (sym (ap (λ (t : Told). t .verdict) told-chosen) ∙ e) λ b a f. k b a (sym decided-verdict ∙ f)
-
-safe-not : (b : Bool) → cond b Verdict.Leak Verdict.Safe ≡ Verdict.Safe → b ≡ false
-safe-not false e = refl
-safe-not true e = absurd (let z : _≡_ {A = ℕ} 0 1 = cc in omega arith)
-
-leak-not : (b : Bool) → cond b Verdict.Leak Verdict.Safe ≡ Verdict.Leak → b ≡ true
-leak-not true e = refl
-leak-not false e = absurd (let z : _≡_ {A = ℕ} 0 1 = cc in omega arith)
-
-true-false : (b : Bool) → b ≡ true → b ≡ false → ⊥
-true-false b t f = let z : _≡_ {A = ℕ} 0 1 = cc in omega arith
-
-module _ (p : Policy) (question : List ℕ) (sound : Sound p) (all : allBrought (modelOf p) (sessionValues p) (beginning p .sessions) ≡ true)
-    (asked : asks p question ≡ true) where
-  decides : (leaking p question 0 ≡ true → Leak (modelOf p) (beginning p) (whoOf (partsOf question)) (whichOf (partsOf question)) (partsOf question .permission))
-      × (Leak (modelOf p) (beginning p) (whoOf (partsOf question)) (whichOf (partsOf question)) (partsOf question .permission) → leaking p question 0 ≡ true)
-  decides =
+  leaking-is : (leaking ≡ true) ↔ Leak (modelOf p) (beginning p) (whoOf (partsOf question)) (whichOf (partsOf question)) (partsOf question .permission)
+  unfolding startsBrought
+  leaking-is =
       let below = beginning-below p sound in
       let brought = brought-is-computed (modelOf p) (beginning p) (sessionValues p) (itemValues p) below .0 all in
       let asking = asks-something p question asked in
       verdict-is-computed (modelOf p) (beginning p) (sessionValues p) (itemValues p) below brought (whoOf (partsOf question)) (whichOf (partsOf question))
-      (partsOf question .permission) (asked-who p (partsOf question) (asking .who)) (asked-which p (partsOf question) (asking .which))
+      (partsOf question .permission) (asked-who p (partsOf question) (asking .who)) (asked-which p (partsOf question) (asking .item))
+
+  no-step : Never p (whoOf (partsOf question)) (whichOf (partsOf question)) (partsOf question .permission)
+      ↔ (Leak (modelOf p) (beginning p) (whoOf (partsOf question)) (whichOf (partsOf question)) (partsOf question .permission) → ⊥)
+  no-step = no-step-is-no-leak (modelOf p) (beginning p) (whoOf (partsOf question)) (whichOf (partsOf question)) (partsOf question .permission)
+
+  safe-is : (decided p question .verdict ≡ safeVerdict) ↔ Never p (whoOf (partsOf question)) (whichOf (partsOf question)) (partsOf question .permission)
+  safe-is = (
+    λ v. no-step .1 (λ l. safe-not leaking (sym decided-verdict ∙ v) (leaking-is .1 l)),
+    λ n. decided-verdict ∙ not-safe leaking (λ t. no-step .0 n (leaking-is .0 t)),
+  )
 
 pub safe-is-never : SafeIsNever
-safe-is-never file question room p e s steps last fits =
-    rests p question room Verdict.Safe (λ k z. absurd (let y : _≡_ {A = ℕ} 0 1 = cc in omega arith)) (sym (ap (λ (a : Read). told a question room .verdict) e) ∙ s) λ b a f.
-    true-false _ (decides p question (file-sound file p e) b a .1 record { steps = steps; last = last; fits = fits }) (safe-not _ f)
+safe-is-never file question room p r v =
+    of-asked (Never p) p question (go (came file question room (told (reading file) question room) refl))
+  where
+    none : (n : ℕ) → told (reading file) question room ≡ refused n → told (reading file) question room .verdict ≡ noVerdict
+    none n x = ap (λ (t : Told). t .verdict) x ∙ refused-none n
 
-pub leak-is-real : LeakIsReal
-leak-is-real file question room p e s =
-    rests p question room Verdict.Leak (λ k z. absurd (let y : _≡_ {A = ℕ} 0 1 = cc in omega arith)) (sym (ap (λ (a : Read). told a question room .verdict) e) ∙ s) λ b a f.
-    decides p question (file-sound file p e) b a .0 (leak-not _ f)
+    go : Came file question room (told (reading file) question room) → Never p (whoOf (partsOf question)) (whichOf (partsOf question)) (partsOf question .permission)
+    go (unread n x e) = absurd (omega (arith, none n e))
+    go (nine p x b e) = absurd (omega (arith, none 9 e))
+    go (ten p x b a e) = absurd (omega (arith, none 10 e))
+    go (eleven p x b a l e) = absurd (omega (arith, none 11 e))
+    go (judged other x b a l e) =
+        subst (λ (p : Policy). Never p (whoOf (partsOf question)) (whichOf (partsOf question)) (partsOf question .permission)) (rules-same x r)
+        (safe-is other question (file-sound file other x) b a .0 (sym (ap (λ (t : Told). t .verdict) e) ∙ v))
 
-pub answer-by-file-and-question : AnswerByFileAndQuestion
-answer-by-file-and-question file question p e room more h k =
-    ap (λ (a : Read). told a question room) e
-    ∙ told-chosen p question room
-    ∙ ap (λ (l : Bool). chosen (allBrought (modelOf p) (sessionValues p) (beginning p .sessions)) (asks p question) l (decided p question)) (le-ltb room (rowsNeeded p) h ∙ sym (le-ltb more (rowsNeeded p) k))
-    ∙ sym (ap (λ (a : Read). told a question more) e ∙ told-chosen p question more)
+-- demand 3
+pub demand3 : Demand3
+demand3 file question before after t n M p r could who which permission A enough =
+    let a = asks-is p question .1 (who, which, permission, A) in
+    let b = starts-could p (file-sound file p r) .1 could in
+    let s : AsksSomething p question = (who, which, permission, A) in
+    let e = is-decided file question (length before) t (M .answer) p r could s enough in
+    let v : decided p question .verdict ≡ t .verdict = sym (ap (λ (x : Told). x .verdict) e) in
+    let safe = safe-is p question (file-sound file p r) b a in
+    record {
+      alone = λ other left u k N l. is-decided file question (length other) u (N .answer) p r could s l ∙ sym e;
+      two = subst (λ (x : ℕ). (x ≡ safeVerdict) ⊎ (x ≡ leakVerdict)) v (decided-two p question);
+      safe = (
+        λ w. of-asked (Never p) p question (safe .0 (v ∙ w)) who which permission A,
+        λ never. sym v ∙ safe .1 (of-parts (Never p) p question who which permission A never),
+      );
+      leak = λ w. (
+        let l = M .leak w p r in
+        of-asked (λ who which permission. IsLeak (modelOf p) (beginning p) who which permission (take n after)) p question
+            (of-parts (λ who which permission. IsLeak (modelOf p) (beginning p) who which permission (take n after)) p question (l .who) (l .which) (l .permission) (l .asked) (l .leak))
+            who which permission A,
+        M .replays w p r,
+      );
+    }
+
+-- the numbers
+
+pub nine-is-exact : NineIsExact
+nine-is-exact file question before after t n M = is-nine file question (length before) t (M .answer)
+
+pub ten-is-exact : TenIsExact
+ten-is-exact file question before after t n M = is-ten file question (length before) t (M .answer)
+
+pub eleven-is-exact : ElevenIsExact
+eleven-is-exact file question before after t n M = is-eleven file question (length before) t (M .answer)
+
+-- what is accepted
+
+pub accepted-is-judged : AcceptedIsJudged
+accepted-is-judged = record {
+  verdict = λ file question before after t n M whole.
+      let j = is-judged file question (length before) t (M .answer) in (
+        λ d. let (p, r, c, s, l) = j .0 d in (p, bytes-again file p whole r, c, s, l),
+        λ (p, w, c, s, l). j .1 (p, rules-again p file w, c, s, l),
+      );
+  start = start-is-exact;
+  step = λ file p r s t c row.
+      let x = step-is-the-table (modelOf p) (files-are-bytes file p r) s t c row .carried in
+      (λ e. let (z, room, d) = x .0 e in (z, d, room), λ (z, d, room). x .1 (z, room, d));
+}

@@ -4,6 +4,7 @@ use mathlib.Core.Path.{_≡_, refl, ap, _∙_}
 use mathlib.Core.Bool.{Bool, cond}
 use mathlib.Core.List.{List, [], _∷_, map}
 use Prim.Native.Nat.{ℕ, zero, suc, _+_, _*_, _^_, _≤_, _<_}
+use native.Mathlib.Nat.{mul-le-mul-right}
 use native.Mathlib.Omega.{arith}
 use borrow.Author.Tests.{lt-ltb, le-ltb}
 use lib.Dec.{ltb}
@@ -84,6 +85,12 @@ module _ (p : Policy) (sound : Sound p) where
   pub items-few : itemValues p ≤ 256
   unfolding itemValues
   items-few = let m : 2 ^ width (p .lists .ofItem) ≤ 2 ^ 8 = pow-mono (sound .item-width) in omega arith
+
+  pub rows-bounded : rowsNeeded p ≤ 66049
+  rows-bounded =
+      let n = sessionValues p in
+      let m : itemValues p * (n + 1) ≤ 256 * (n + 1) = mul-le-mul-right (n + 1) items-few in
+      omega (arith, needed-is p, m, sessions-few)
 
   -- values of a file are below the numbers that rows are reckoned by
   pub beginning-below : Below (modelOf p) (beginning p) (sessionValues p) (itemValues p)

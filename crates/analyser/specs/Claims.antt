@@ -4,7 +4,7 @@
 use mathlib.Core.Path.{_≡_}
 use mathlib.Core.Logic.{_⊎_, _↔_}
 use mathlib.Core.List.{List}
-use Prim.Native.Nat.{ℕ, _≤_}
+use Prim.Native.Nat.{ℕ}
 use lib.ListN.{length, take}
 use Rattle.format.specs.File.{bytes}
 use Rattle.policy.specs.Policy.{Policy}
@@ -17,10 +17,11 @@ use Rattle.allowed.specs.Allowed.{modelOf}
 use Rattle.cells.specs.Row.{partsOf, rowStep}
 use Rattle.cells.specs.Leak.{IsLeak}
 use Rattle.live.specs.Lent.{Lent}
-use Rattle.live.specs.declared.Outcome.the-variants as Outcome
+use mathlib.Core.Option.{none}
 use Rattle.steps.specs.Step.{stepIn}
 use Rattle.steps.specs.Codes.{Codes, Room}
-use Rattle.starting.specs.Start.{started, beginning}
+use Rattle.starting.specs.Start.{beginning}
+use Rattle.starting.specs.Claims.{StartIsExact}
 use Rattle.replay.specs.Asked.{Asked}
 use Rattle.replay.specs.Replay.{replayed}
 use Rattle.replay.specs.Claims.{Enough}
@@ -40,7 +41,7 @@ pub record Decides (p : Policy) (file question after : List ℕ) (t : Told) (n :
   pub leak : t .verdict ≡ leakVerdict
       → IsLeak (modelOf p) (beginning p) who which permission (take n after)
       × ((sessions items : List ℕ) → Enough p (take n after) (length sessions) (length items)
-      → replayed (reading file) question (take n after) sessions items .outcome ≡ Outcome.Done)
+      → replayed (reading file) question (take n after) sessions items .refusal ≡ none)
 
 -- [Demand 3]: for every file whose starting sessions their users could have brought about, with every question and row slice accepted beside it
 abbrev pub Demand3 : Type 0
@@ -75,9 +76,8 @@ pub record AcceptedIsJudged : Type 0 where
   pub verdict : (file question before after : List ℕ) (t : Told) (n : ℕ) → Means file question before after t n → Bytes file
       → (t .verdict ≡ noVerdict → ⊥) ↔ ((p : Policy) × (writing p ≡ bytes file) × StartCould p × AsksSomething p question × RowsEnough p (length before))
   -- a start exactly when the file is read and the cells are enough
-  pub start : (file sessions items : List ℕ) → (started (reading file) sessions items .outcome ≡ Outcome.Done)
-      ↔ ((p : Policy) × (reading file ≡ rules p) × (length (p .sessions) ≤ length sessions) × (length (p .items) ≤ length items))
+  pub start : StartIsExact
   -- a step, on cells that code a run's state, exactly when it is laid out as a row, the table permits it, and a number and a cell are left
   pub step : (file : List ℕ) (p : Policy) → reading file ≡ rules p → (s : Lent) (t : State) → Codes (modelOf p) s t → (row : ℕ)
-      → (stepIn (modelOf p) s row .outcome ≡ Outcome.Done)
+      → (stepIn (modelOf p) s row .refusal ≡ none)
       ↔ ((partsOf row .spare ≡ 0) × ((after : State) × Carried (modelOf p) t (rowStep row) after) × Room s (rowStep row))

@@ -1,7 +1,7 @@
 -- What deciding a question comes to, in terms of the searches. Private vocabulary: nothing here has to be believed.
 -- Assumes nothing.
 use mathlib.Core.Path.{_≡_}
-use mathlib.Core.Bool.{false, cond}
+use mathlib.Core.Bool.{Bool, false, cond}
 use mathlib.Core.Logic.{_⊎_}
 use mathlib.Core.List.{List, []}
 use Prim.Native.Nat.{ℕ, _+_, _*_, _^_, _≤_}
@@ -15,7 +15,7 @@ use Rattle.session_rows.specs.Writing.{writingOf}
 use Rattle.leak.specs.Leak.{leakWritten}
 use Rattle.session_rows.specs.declared.Pen.{Pen}
 use Rattle.replay.specs.declared.question.Question.{Question}
-use Rattle.user_searches.specs.Found.{anyHas, Names, foundPairs}
+use Rattle.user_searches.specs.Found.{anyHas, allFound, Names, foundPairs}
 use Rattle.goal.specs.Asked.{itemFound, sessionFound, whoFound, aimOf, hitValue, hitPlace, PenReady}
 use Rattle.analyser.specs.declared.Answer.{Answer}
 use Rattle.analyser.specs.declared.Verdict.{Verdict}
@@ -24,6 +24,10 @@ use Rattle.analyser.specs.declared.Verdict.the-variants as Verdict
 -- the rows that classes of s and o bits need; of classes that no file has, none
 unfoldable pub rowsFor : ℕ → ℕ → ℕ
 rowsFor s o = cond (ltb 8 s) 0 (cond (ltb 8 o) 0 (2 ^ s + 2 ^ o * (2 ^ s + 1) + 1))
+
+-- the searches of the users hold every starting session
+abbrev pub startsFound : Rules → List Found → Bool
+startsFound r users = allFound users (sessionsOf (r .sessions))
 
 module _ (r : Rules) (users : List Found) (q : Question) where
   -- where the first leak is

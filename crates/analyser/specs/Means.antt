@@ -11,7 +11,7 @@ use Rattle.runs.specs.Grant.{Who, Which}
 use Rattle.runs.specs.Outcome.{SessionStands, ItemStands}
 use Rattle.verdict.specs.Meaning.{Counts}
 use Rattle.allowed.specs.Allowed.{modelOf}
-use Rattle.live.specs.declared.Outcome.the-variants as Outcome
+use mathlib.Core.Option.{none}
 use Rattle.starting.specs.Start.{beginning}
 use Rattle.replay.specs.Asked.{Asked}
 use Rattle.replay.specs.Replay.{replayed}
@@ -35,7 +35,7 @@ pub record Means (file question before after : List ℕ) (t : Told) (n : ℕ) : 
   pub leak : t .verdict ≡ leakVerdict → (p : Policy) → reading file ≡ rules p → AskedLeak p question (take n after)
   pub replays : t .verdict ≡ leakVerdict → (p : Policy) → reading file ≡ rules p → (sessions items : List ℕ)
       → Enough p (take n after) (length sessions) (length items)
-      → replayed (reading file) question (take n after) sessions items .outcome ≡ Outcome.Done
+      → replayed (reading file) question (take n after) sessions items .refusal ≡ none
   -- the counts are of what stands after some run
   pub pairs : (t .verdict ≡ noVerdict → ⊥) → (p : Policy) → reading file ≡ rules p
       → Counts (λ (x : ℕ × ℕ). SessionStands (modelOf p) (beginning p) (x .0) (x .1)) (t .pairs)

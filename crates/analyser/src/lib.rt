@@ -1,15 +1,13 @@
 // The analyser: safe or leak, for runs of any length.
 ghost use mathlib.Core.Path.{_≡_};
 ghost use Prim.Native.Nat.{ℕ, _^_, _≤_, _<_};
-ghost use lib.ListN.{length};
-ghost use Rattle.rules.specs.Answers.{reading};
 ghost use Rattle.policy.specs.Policy.{width};
 ghost use Rattle.policy.specs.Rules.{attrsOf};
 ghost use Rattle.allowed.specs.Basis.{BasisOf};
-ghost use Rattle.analyser.specs.Answer.{told};
+ghost use Rattle.analyser.specs.Answer.{toldOf};
 ghost use Rattle.user_searches.specs.Found.{userFound};
-ghost use Rattle.analyser.specs.Decide.{rowsFor, DecidedBy};
-ghost use Rattle.analyser.specs.Never.{Means};
+ghost use Rattle.analyser.specs.Decide.{rowsFor, startsFound, DecidedBy};
+ghost use Rattle.analyser.specs.Means.{Means};
 use allowed::Basis;
 use allowed::basis_of;
 use goal::about;
@@ -76,6 +74,13 @@ fn rows_needed(rules: Rules) -> usize
     n + k * (n + 1) + 1
 }
 
+// Whether the starting sessions could have been brought about by their users, whose sessions' values were searched.
+fn starts_brought(rules: Rules, users: [Found; 16]) -> bool
+    ensures { λ r. ⌜ r ≡ startsFound rules users ⌝ }
+{
+    user_searches::all_brought(users, rules.sessions)
+}
+
 // Decides a question that is good, of rules whose starting sessions could have been brought about.
 fn decide(rules: Rules, users: [Found; 16], q: Question, rows: &mut [u64], basis: Basis) -> Answer
     requires { ⌜ ((u : ℕ) → u < 16 → userFound users u .len ≤ 256) ⌝ }
@@ -122,8 +127,7 @@ fn decide(rules: Rules, users: [Found; 16], q: Question, rows: &mut [u64], basis
 // Answers a question of a file: refused by the first of 1 to 8, 9, 10, 11, and then counts and rows are 0; safe exactly when no run of any length
 // grants what is asked; or a leak, whose rows fill the front of `rows`. Unless it is a leak `rows` is as it was.
 pub fn analyse(file: &[u8], question: &[u8], rows: &mut [u64]) -> Answer
-    ensures { λ r. ⌜ record { verdict = r .verdict; pairs = r .pairs; values = r .values } ≡ told (reading (now (file .entry))) (now (question .entry)) (length (now (rows .entry))) ⌝ }
-    ensures { λ r. ⌜ Means (now (file .entry)) (now (question .entry)) (now (rows .entry)) (now (rows .exit)) r ⌝ }
+    ensures { λ r. ⌜ Means (now (file .entry)) (now (question .entry)) (now (rows .entry)) (now (rows .exit)) (toldOf (r .verdict) (r .pairs) (r .values)) (r .rows) ⌝ }
 {
     let parsed = read_rules(file);
     let answer = parsed.answer;
@@ -136,7 +140,7 @@ pub fn analyse(file: &[u8], question: &[u8], rows: &mut [u64]) -> Answer
     }
     let basis = basis_of(rules);
     let users = user_searches::search_users(rules, basis);
-    if !user_searches::all_brought(users, rules.sessions) {
+    if !starts_brought(rules, users) {
         return refused(9);
     }
     if !asks(rules, question) {

@@ -20,7 +20,7 @@ false-true : {C : Type 0} {b : Bool} → b ≡ false → b ≡ true → C
 false-true e t = absurd (let z : _≡_ {A = ℕ} 0 1 = cc in omega arith)
 
 module _ (p : Policy) (q : Question) where
-  who-asked : whoAmong (length (p .sessions)) (length (p .users)) q ≡ true → AsksWho p (q .whokind) (q .who) (whoOf q)
+  pub who-asked : whoAmong (length (p .sessions)) (length (p .users)) q ≡ true → AsksWho p (q .whokind) (q .who) (whoOf q)
   who-asked t = first (ℕ-discrete (q .whokind) 0)
     where
       third : (q .whokind ≡ 0 → ⊥) → (q .whokind ≡ 1 → ⊥) → Dec (q .whokind ≡ 2) → AsksWho p (q .whokind) (q .who) (whoOf q)
@@ -38,7 +38,7 @@ module _ (p : Policy) (q : Question) where
           one-session e (ltb-true (q .who) (length (p .sessions)) (sym (session-among (length (p .sessions)) (length (p .users)) q e) ∙ t)) (who-session q e)
       first (no d) = second d (ℕ-discrete (q .whokind) 1)
 
-  item-asked : whichAmong (length (p .items)) q ≡ true → AsksItem p (q .itemkind) (q .item) (whichOf q)
+  pub item-asked : whichAmong (length (p .items)) q ≡ true → AsksItem p (q .itemkind) (q .item) (whichOf q)
   item-asked t = first (ℕ-discrete (q .itemkind) 0)
     where
       second : (q .itemkind ≡ 0 → ⊥) → Dec (q .itemkind ≡ 1) → AsksItem p (q .itemkind) (q .item) (whichOf q)
@@ -89,7 +89,7 @@ bytes-are a b c e =
 
 -- both ways
 
-parts-asked : (p : Policy) (question : List ℕ) → asks p question ≡ true
+pub parts-asked : (p : Policy) (question : List ℕ) → asks p question ≡ true
     → (length question ≡ 3) × (partsOf question .spares ≡ 0) × (whoAmong (length (p .sessions)) (length (p .users)) (partsOf question) ≡ true)
     × (whichAmong (length (p .items)) (partsOf question) ≡ true) × (partsOf question .permission < p .head .permissions)
 unfolding asks partsAsk

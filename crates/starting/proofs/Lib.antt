@@ -1,4 +1,5 @@
 -- in reading order
 pub mod StartLaws  -- starting cells, one more at a time, and what starting answers
 pub mod Begin  -- starting cells code the beginning
-pub mod Theorems  -- the claim
+pub mod Exact  -- a start is carried out exactly when the file is read and the cells are enough
+pub mod Theorems  -- the claims

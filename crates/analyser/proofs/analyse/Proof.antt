@@ -8,7 +8,7 @@ use Rattle.live.proofs.Laws.{held, denied}
 use Rattle.steps.proofs.Files.{file-sound}
 use Rattle.replay.specs.declared.question.Question.{Question}
 use Rattle.analyser.specs.Decide.{DecidedBy}
-use Rattle.analyser.proofs.Decides.{decided-is-told, refused-file-is-told, refused-sessions-is-told, refused-question-is-told, refused-room-is-told, rowsFor-needed}
+use Rattle.analyser.proofs.Decides.{decided-means, refused-file-is-told, refused-sessions-is-told, refused-question-is-told, refused-room-is-told, rowsFor-needed}
 use Rattle.user_searches.proofs.Laws.{users-few}
 use Rattle.analyser.proofs.Refusals.{gives-number}
 use borrow.Author.Needs.{needs}
@@ -40,8 +40,8 @@ basis-of-requires c κs = search needs
 search-users-requires : tie.Need-search-users-requires
 search-users-requires c κs = search needs
 
-all-brought-requires : tie.Need-all-brought-requires
-all-brought-requires c κs = search needs
+starts-brought-requires : tie.Need-starts-brought-requires
+starts-brought-requires c κs = search needs
 
 refused-requires-2 : tie.Need-refused-requires-2
 refused-requires-2 c κs = search needs
@@ -54,7 +54,7 @@ returns-2 c =
     let e = was-accepted (a .file .now) (q .result .answer) (policyOf (q .result .rules)) (q .ensures .0) (t .enum-told .given .1) in
     let found = c .before .before .before .search-users .ensures in
     gives-number _ _ _ _ _ (c .refused2 .ensures)
-    (refused-sessions-is-told _ _ _ (q .result .rules) _ e found (denied (c .before .before .all-brought .ensures) (c .before .if1 .taken)))
+    (refused-sessions-is-told _ _ _ (q .result .rules) _ e found (denied (c .before .before .starts-brought .ensures) (c .before .if1 .taken)))
 
 asks-requires : tie.Need-asks-requires
 asks-requires c κs = search needs
@@ -69,7 +69,7 @@ returns-3 c =
     let a = t .before .before .before .before .before .before .before .args in
     let e = was-accepted (a .file .now) (q .result .answer) (policyOf (q .result .rules)) (q .ensures .0) (t .enum-told .given .1) in
     let found = c .before .before .before .before .before .search-users .ensures in
-    let brought = held (c .before .before .before .before .all-brought .ensures) (c .before .before .before .if1 .left) in
+    let brought = held (c .before .before .before .before .starts-brought .ensures) (c .before .before .before .if1 .left) in
     gives-number _ _ _ _ _ (c .refused3 .ensures)
     (refused-question-is-told _ _ _ (q .result .rules) _ e found brought (denied (c .before .before .asks .ensures) (c .before .if2 .taken)))
 
@@ -86,7 +86,7 @@ returns-4 c =
     let a = t .before .before .before .before .before .before .before .args in
     let e = was-accepted (a .file .now) (q .result .answer) (policyOf (q .result .rules)) (q .ensures .0) (t .enum-told .given .1) in
     let found = c .before .before .before .before .before .before .before .search-users .ensures in
-    let brought = held (c .before .before .before .before .before .before .all-brought .ensures) (c .before .before .before .before .before .if1 .left) in
+    let brought = held (c .before .before .before .before .before .before .starts-brought .ensures) (c .before .before .before .before .before .if1 .left) in
     let asked = held (c .before .before .before .before .asks .ensures) (c .before .before .before .if2 .left) in
     let need = c .before .before .rows-needed .ensures ∙ rowsFor-needed (q .result .rules) (file-sound (a .file .now) (policyOf (q .result .rules)) e) in
     gives-number _ _ _ _ _ (c .refused4 .ensures)
@@ -111,10 +111,10 @@ returns-5 c =
     let a = t .before .before .before .before .before .before .before .args in
     let e = was-accepted (a .file .now) (q .result .answer) (policyOf (q .result .rules)) (q .ensures .0) (t .enum-told .given .1) in
     let found = c .before .before .before .before .before .before .before .before .before .before .before .search-users .ensures in
-    let brought = held (c .before .before .before .before .before .before .before .before .before .before .all-brought .ensures) (c .before .before .before .before .before .before .before .before .before .if1 .left) in
+    let brought = held (c .before .before .before .before .before .before .before .before .before .before .starts-brought .ensures) (c .before .before .before .before .before .before .before .before .before .if1 .left) in
     let asked = held (c .before .before .before .before .before .before .before .before .asks .ensures) (c .before .before .before .before .before .before .before .if2 .left) in
     let need = c .before .before .before .before .before .before .rows-needed .ensures ∙ rowsFor-needed (q .result .rules) (file-sound (a .file .now) (policyOf (q .result .rules)) e) in
-    decided-is-told (a .file .now) (a .question .now) (a .rows .now) _ (q .result .rules) _ _ e found brought asked
+    decided-means (a .file .now) (a .question .now) (a .rows .now) _ (q .result .rules) _ _ e found brought asked
     (omega (arith, need, c .before .before .before .before .before .if3 .left))
     (subst (λ (x : Question). DecidedBy (q .result .rules) (c .before .before .before .before .before .before .before .before .before .before .before .search-users .result) x (a .rows .now) (c .before .before .decide .last .1 .1 .1 .0) (c .before .before .decide .result))
     (c .before .before .before .before .of .ensures) (c .before .before .decide .ensures))
@@ -130,7 +130,7 @@ analyse-spec =
     enum-told
     basis-of-requires
     search-users-requires
-    all-brought-requires
+    starts-brought-requires
     refused-requires-2
     returns-2
     asks-requires

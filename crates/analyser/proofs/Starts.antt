@@ -1,0 +1,64 @@
+-- Starting sessions that their users could have brought about: computed, and of runs of the file without its starting sessions.
+-- In order: that file; what its runs have open; all starting sessions; one that could not.
+use mathlib.Core.Path.{_≡_, refl, sym, _∙_, subst}
+use mathlib.Core.Bool.{true, false}
+use mathlib.Core.Logic.{_↔_}
+use mathlib.Core.List.{[]}
+use Prim.Native.Nat.{ℕ, _<_}
+use native.Mathlib.Omega.{arith}
+use lib.ListN.{length}
+use Rattle.policy.specs.Policy.{Policy}
+use Rattle.lists.specs.Sound.{Sound, startingSession}
+use Rattle.runs.specs.State.{opened, begin, sessionAt}
+use Rattle.runs.specs.Reach.{Reach, Brought}
+use Rattle.runs.proofs.Laws.{open-inside}
+use Rattle.runs.proofs.Theorems.{could-is-reach}
+use Rattle.verdict.proofs.Decided.{unbrought-is}
+use Rattle.verdict.proofs.Theorems.{brought-is-computed}
+use Rattle.allowed.specs.Allowed.{says, userValue, modelOf}
+use Rattle.starting.specs.Start.{beginning}
+use Rattle.analyser.specs.Answer.{sessionValues, itemValues, startsBrought}
+use Rattle.analyser.specs.Never.{withoutSessions, CouldBring, StartCould, StartCouldNot}
+use Rattle.analyser.proofs.Widths.{beginning-long, beginning-session, beginning-below}
+
+module _ (p : Policy) where
+  without-model : modelOf (withoutSessions p) ≡ modelOf p
+  unfolding modelOf withoutSessions says userValue
+  without-model = refl
+
+  without-start : beginning (withoutSessions p) ≡ begin [] (beginning p .items)
+  unfolding beginning begin withoutSessions
+  without-start = refl
+
+  could-reach : (u v : ℕ) → CouldBring p u v ↔ Reach (modelOf p) u v
+  could-reach u v = rw (without-model, without-start) (could-is-reach (modelOf p) (beginning p .items) u v)
+
+  -- starting session number k, where it is open as a session of user u with value v
+  starts-as : (k u v : ℕ) → sessionAt (beginning p) k ≡ opened u v → (k < length (p .sessions)) × (startingSession p k .user ≡ u) × (startingSession p k .value ≡ v)
+  starts-as k u v e =
+      let h : k < length (p .sessions) = omega (arith, open-inside (beginning p) k u v e, beginning-long p) in
+      let x : opened (startingSession p k .user) (startingSession p k .value) ≡ opened u v = sym (beginning-session p k h) ∙ e in
+      (h, cc, cc)
+
+  module _ (sound : Sound p) where
+    brought : (startsBrought p ≡ true) ↔ Brought (modelOf p) (beginning p)
+    unfolding startsBrought
+    brought = brought-is-computed (modelOf p) (beginning p) (sessionValues p) (itemValues p) (beginning-below p sound)
+
+    pub starts-could : (startsBrought p ≡ true) ↔ StartCould p
+    starts-could = (
+      λ t k h. could-reach _ _ .1 (brought .0 t k _ _ (beginning-session p k h)),
+      λ c. brought .1 λ k u v e.
+          let (h, x, y) = starts-as k u v e in
+          subst (λ (a : ℕ). Reach (modelOf p) a v) x (subst (Reach (modelOf p) (startingSession p k .user)) y (could-reach _ _ .0 (c k h))),
+    )
+
+    pub one-could-not : startsBrought p ≡ false → StartCouldNot p
+    unfolding startsBrought
+    one-could-not t =
+        let (k, u, v, e, n) = unbrought-is (modelOf p) (beginning p) (sessionValues p) (itemValues p) (beginning-below p sound) t in
+        let (h, x, y) = starts-as k u v e in
+        (k, h, λ c. n (subst (λ (a : ℕ). Reach (modelOf p) a v) x (subst (Reach (modelOf p) (startingSession p k .user)) y (could-reach _ _ .0 c))))
+
+    pub not-all : StartCouldNot p → startsBrought p ≡ true → ⊥
+    not-all (k, h, n) t = n (starts-could .0 t k h)

@@ -1,4 +1,4 @@
-//! A host in Rust: reads the rule file that its argument names, asks two questions, replays the leak and runs it by the monitor. It prints what
+//! A host in Rust: reads the rule file that its argument names, asks three questions, replays the leak and runs it by the monitor. It prints what
 //! examples/host.c prints.
 
 /// The library's calls, safe: slices are never null, and a `&mut` overlaps nothing. An error is the number that is given.
@@ -24,6 +24,11 @@ mod rights {
     /// So many rows are enough, whatever the file.
     pub const ROWS: usize = 66_049;
     pub const OPEN: u64 = 1;
+
+    /// The verdicts of `rights_analyse`: none where a number is given.
+    const NONE: u64 = 0;
+    const SAFE: u64 = 1;
+    const LEAK: u64 = 2;
 
     fn told(number: u32) -> Result<(), u32> {
         if number == 0 { Ok(()) } else { Err(number) }
@@ -98,22 +103,34 @@ mod rights {
         })
     }
 
-    /// Safe, or a leak with its rows; pairs of user and session value, and values of the asked item.
+    /// Safe, or a leak with its rows.
+    pub enum Verdict {
+        Safe,
+        Leak(Vec<u64>),
+    }
+
+    /// The verdict; pairs of user and session value, and values of the asked item.
     pub struct Answer {
-        pub leak: Option<Vec<u64>>,
+        pub verdict: Verdict,
         pub pairs: u64,
         pub values: u64,
     }
 
     pub fn analyse(file: &[u8], question: &[u8]) -> Result<Answer, u32> {
         let mut rows = vec![0; ROWS];
-        let (mut verdict, mut pairs, mut values, mut count) = (0, 0, 0, 0);
-        told(unsafe {
+        let (mut verdict, mut pairs, mut values, mut count) = (NONE, 0, 0, 0);
+        let number = unsafe {
             c::rights_analyse(file.as_ptr(), file.len(), question.as_ptr(), question.len(), rows.as_mut_ptr(), rows.len(), &mut verdict, &mut pairs,
                               &mut values, &mut count)
-        })?;
+        };
         rows.truncate(count as usize);
-        Ok(Answer { leak: if verdict == 1 { Some(rows) } else { None }, pairs, values })
+        let verdict = match verdict {
+            NONE => return Err(number),
+            SAFE => Verdict::Safe,
+            LEAK => Verdict::Leak(rows),
+            _ => unreachable!("a verdict is none, safe or leak"),
+        };
+        Ok(Answer { verdict, pairs, values })
     }
 }
 
@@ -132,9 +149,11 @@ fn ask(what: &str, file: &[u8], question: &[u8]) -> Vec<u64> {
             Vec::new()
         }
         Ok(a) => {
-            let word = if a.leak.is_some() { "leak" } else { "safe" };
+            let (word, rows) = match a.verdict {
+                rights::Verdict::Safe => ("safe", Vec::new()),
+                rights::Verdict::Leak(rows) => ("leak", rows),
+            };
             println!("{what}: {word}, {} pairs of user and session value, {} values of an item", a.pairs, a.values);
-            let rows = a.leak.unwrap_or_default();
             for row in &rows {
                 let [kind, actor, target, value] = rights::parts(*row);
                 println!("    {kind} {actor} {target} {value}");
@@ -147,8 +166,8 @@ fn ask(what: &str, file: &[u8], question: &[u8]) -> Vec<u64> {
 fn main() -> std::io::Result<()> {
     let path = std::env::args().nth(1).expect("a rule file");
     let file = std::fs::read(path)?;
-    // any item, permission 0; who: user 1, user 0
-    let (user_1, user_0) = ([0x41, 0x80, 0x00], [0x40, 0x80, 0x00]);
+    // any item, permission 0; who: user 2, whom the counter file does not have, user 1, user 0
+    let (user_2, user_1, user_0) = ([0x42, 0x80, 0x00], [0x41, 0x80, 0x00], [0x40, 0x80, 0x00]);
 
     println!("reading: {}", number(rights::read(&file)));
     match rights::write_back(&file) {
@@ -156,6 +175,7 @@ fn main() -> std::io::Result<()> {
         Err(n) => println!("writing back: {n}"),
     }
 
+    ask("user 2", &file, &user_2);
     ask("user 1", &file, &user_1);
     let rows = ask("user 0", &file, &user_0);
     println!("replaying the leak: {}", number(rights::replay(&file, &user_0, &rows, CELLS)));

@@ -32,9 +32,10 @@ extern "C" {
 #define RIGHTS_CHANGE_ITEM 5    /* session, item, new value */
 #define RIGHTS_ACCESS 6         /* session, item, permission */
 
-/* what rights_analyse answers */
-#define RIGHTS_SAFE 0
-#define RIGHTS_LEAK 1
+/* the verdict of rights_analyse; a host says safe for RIGHTS_SAFE and for no other value, since what is no leak may also be refused */
+#define RIGHTS_NONE 0 /* a number was given */
+#define RIGHTS_SAFE 1 /* no run of any length grants what is asked */
+#define RIGHTS_LEAK 2 /* some run does */
 
 /* a row: kind in bits 63 to 60, actor in 59 to 40, target in 39 to 20, value in 19 to 8, zero below; each part is cut to its bits */
 static inline uint64_t rights_row(uint64_t kind, uint64_t actor, uint64_t target, uint64_t value) {
@@ -86,7 +87,7 @@ uint32_t rights_replay(const uint8_t *file, size_t len, const uint8_t *question,
    user and session value can be open after some run, `*values` how many values the asked item (or some item) can have. A leak has `*row_count` rows,
    which stand at the front of `rows` and replay in any cells that are enough; the rest of `rows` is as it was. Safe: `*row_count` is 0, and `rows` is
    as it was. Else the first of 1 to 8, 9, 10, or 11 where r is below 2^s + 2^o * (2^s + 1) + 1 (s and o the widths of a session's and an item's value,
-   RIGHTS_ROWS at most): all four numbers are 0, and `rows` is as it was. */
+   RIGHTS_ROWS at most): `*verdict` is RIGHTS_NONE, the other three are 0, whatever they held, and `rows` is as it was. */
 uint32_t rights_analyse(const uint8_t *file, size_t len, const uint8_t *question, size_t qlen, uint64_t *rows, size_t r, uint64_t *verdict,
                         uint64_t *pairs, uint64_t *values, uint64_t *row_count);
 

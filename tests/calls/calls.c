@@ -42,11 +42,16 @@ static void analyse(const uint8_t *file, size_t len, const uint8_t *question, si
     calls++;
     fill();
     is("number", number, rights_analyse(file, len, question, qlen, lent[ROWS], room, &verdict, &pairs, &values, &count));
-    is("verdict", v, verdict);
+    is("the verdict, which held 99", v, verdict);
     is("pairs", p, pairs);
     is("values", o, values);
-    if (v == RIGHTS_SAFE) is("rows", 0, count);
+    if (v != RIGHTS_LEAK) is("rows", 0, count);
     kept(ROWS, count);
+}
+
+/* a number is given: there is no verdict */
+static void refused(const uint8_t *file, size_t len, const uint8_t *question, size_t qlen, size_t room, uint32_t number) {
+    analyse(file, len, question, qlen, room, number, RIGHTS_NONE, 0, 0);
 }
 
 static void replay(const uint8_t *file, size_t len, const uint8_t *question, size_t qlen, const uint64_t *rows, size_t r, size_t n, size_t m,
@@ -83,15 +88,20 @@ int main(void) {
     const uint64_t unchanged[3] = {leak[0], leak[1], leak[3]};
     uint64_t found[MOST];
 
+    /* the verdicts, by number: a host is built with these */
+    is("the verdict none", 0, RIGHTS_NONE);
+    is("the verdict safe", 1, RIGHTS_SAFE);
+    is("the verdict leak", 2, RIGHTS_LEAK);
+
     /* the question; 9 rows are enough for widths 1 and 1, 8 are not, safe or leak */
     analyse(counter, 33, user_1, 3, 9, 0, RIGHTS_SAFE, 3, 2);
-    analyse(counter, 33, user_1, 3, 8, 11, 0, 0, 0);
-    analyse(counter, 33, user_0, 3, 8, 11, 0, 0, 0);
-    analyse(counter, 33, user_1, 2, 9, 10, 0, 0, 0);
-    for (int i = 0; i < 4; i++) analyse(counter, 33, others[i], 3, 8, 10, 0, 0, 0);
-    analyse(counter, 0, user_0, 3, 9, 1, 0, 0, 0);
-    analyse(counter, 32, user_0, 3, 9, 1, 0, 0, 0);
-    analyse(shut, sizeof shut, user_0, 2, 0, 9, 0, 0, 0); /* 9 before 10 and 11 */
+    refused(counter, 33, user_1, 3, 8, 11);
+    refused(counter, 33, user_0, 3, 8, 11);
+    refused(counter, 33, user_1, 2, 9, 10);
+    for (int i = 0; i < 4; i++) refused(counter, 33, others[i], 3, 8, 10);
+    refused(counter, 0, user_0, 3, 9, 1);
+    refused(counter, 32, user_0, 3, 9, 1);
+    refused(shut, sizeof shut, user_0, 2, 0, 9); /* 9 before 10 and 11 */
     analyse(counter, 33, user_0, 3, 9, 0, RIGHTS_LEAK, 3, 2);
     is("a leak has 1 to 9 rows", 1, count >= 1 && count <= 9);
     memcpy(found, lent[ROWS], sizeof found);

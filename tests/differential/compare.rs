@@ -154,7 +154,7 @@ fn leak(tally: &mut Tally, random: &Random, raw: &RawRules, bytes: &[u8], questi
     replays(tally, random, bytes, &asked, &altered, room).map(|_| ())
 }
 
-/// The verdict and both counts, the rows untouched unless it is a leak, and the leak itself.
+/// The number, the verdict (none where a number is given) and both counts, the rows untouched unless it is a leak, and the leak itself.
 fn question(tally: &mut Tally, random: &Random, raw: &RawRules, bytes: &[u8]) -> Outcome {
     let question = generate::question(random, raw);
     let width = |class: usize| crate::second::rules::width(&generate::attributes_of(raw, class));
@@ -169,7 +169,11 @@ fn question(tally: &mut Tally, random: &Random, raw: &RawRules, bytes: &[u8]) ->
     let told = library::analyse(bytes, &question, &mut rows);
     let second = analyse(bytes, &question, length as usize);
     tally.numbers[told.number as usize] += 1;
-    let verdict = u64::from(second.verdict == Verdict::Leak);
+    let verdict = match second.verdict {
+        Verdict::Refused => library::NONE,
+        Verdict::Safe => library::SAFE,
+        Verdict::Leak => library::LEAK,
+    };
     same(
         "analyse",
         bytes,
@@ -179,8 +183,8 @@ fn question(tally: &mut Tally, random: &Random, raw: &RawRules, bytes: &[u8]) ->
     let used = told.rows as usize;
     same("rows after the leak", bytes, &rows[used..], &before[used..])?;
     if second.verdict != Verdict::Leak {
-        tally.safe += u64::from(told.number == 0);
-        return same("rows of a safe answer", bytes, used, 0);
+        tally.safe += u64::from(second.verdict == Verdict::Safe);
+        return same("rows unless it is a leak", bytes, used, 0);
     }
     tally.leak += 1;
     leak(tally, random, raw, bytes, &question, &rows[..used])
@@ -194,7 +198,8 @@ pub fn input(tally: &mut Tally, random: &Random) -> Outcome {
         0 => {
             let (bytes, number) = spoil::file(random, &raw);
             same("a known fault", &bytes, library::read(&bytes), number)?;
-            file(tally, random, &bytes)
+            file(tally, random, &bytes)?;
+            question(tally, random, &raw, &bytes)
         }
         1 => {
             let mut bytes = good;

@@ -86,6 +86,11 @@ pub fn replay(file: &[u8], question: &[u8], rows: &[u64], sessions: &mut [u64], 
     }
 }
 
+/// The verdicts; none where a number is given.
+pub const NONE: u64 = 0;
+pub const SAFE: u64 = 1;
+pub const LEAK: u64 = 2;
+
 /// What the analyser tells.
 #[derive(Clone, Copy, PartialEq, Debug)]
 pub struct Told {

@@ -35,11 +35,13 @@ fn told(file: &[u8], question: &[u8]) -> (Vec<String>, Vec<u64>) {
     let mut rows = vec![0; needed.unwrap_or(0) as usize];
     let told = library::analyse(file, question, &mut rows);
     rows.truncate(told.rows as usize);
-    let words = match told.number {
-        0 => vec![["SAFE", "LEAK"][told.verdict as usize].to_string(), told.pairs.to_string(), told.values.to_string()],
-        number => vec!["REFUSED".to_string(), number.to_string()],
+    let line = match (told.number, told.verdict) {
+        (0, library::SAFE) => format!("SAFE {} {}", told.pairs, told.values),
+        (0, library::LEAK) => format!("LEAK {} {}", told.pairs, told.values),
+        (number, library::NONE) => format!("REFUSED {number}"),
+        (number, verdict) => format!("number {number} with verdict {verdict}"),
     };
-    (words, rows)
+    (line.split(' ').map(str::to_string).collect(), rows)
 }
 
 /// Whether the rows replay by both, and every one of them is carried out in a run.

@@ -1,6 +1,6 @@
 -- The claims of specs/Claims.antt, one line each.
 use mathlib.Core.List.{[]}
-use Rattle.runs.specs.Claims.{StepComputes, NoStepIsNoLeak, NeverIsExact, CountsAreExact, CouldIsReach, BroughtIsCould, LeakIsShort, RowsAreEnough}
+use Rattle.runs.specs.Claims.{StepComputes, NoStepIsNoLeak, NeverIsExact, SessionCountIsExact, ItemCountIsExact, CountsAreExact, CouldIsReach, BroughtIsCould, LeakIsShort, RowsAreEnough}
 use Rattle.runs.specs.State.{begin}
 use Rattle.runs.proofs.Laws.{stepped-carried, carried-stepped}
 use Rattle.runs.proofs.Decide.{leak-risk, risk-within, within-leak, session-stands, item-stands, none-brought}
@@ -17,8 +17,14 @@ no-step-is-no-leak m start who which permission = (no-step-no-leak m start who w
 pub never-is-exact : NeverIsExact
 never-is-exact m start b who which q a c = (leak-risk m start b who which q a c, λ r. within-leak m start (risk-within m start who which q c r))
 
+pub session-count-is-exact : SessionCountIsExact
+session-count-is-exact = session-stands
+
+pub item-count-is-exact : ItemCountIsExact
+item-count-is-exact = item-stands
+
 pub counts-are-exact : CountsAreExact
-counts-are-exact = (session-stands, item-stands)
+counts-are-exact = (session-count-is-exact, item-count-is-exact)
 
 pub could-is-reach : CouldIsReach
 could-is-reach m items u v = session-stands m (begin [] items) (none-brought m items) u v

@@ -1,15 +1,13 @@
 // The calls of the analyser and of replay for hosts: each returns 0, or paper 01's number.
 ghost use mathlib.Core.Path.{_≡_};
-ghost use lib.ListN.{length};
 ghost use Rattle.rules.specs.Answers.{reading};
 ghost use Rattle.replay.specs.Replay.{replayed};
-ghost use Rattle.analyser.specs.Answer.{told};
-ghost use Rattle.analyser.specs.Never.{Means};
+ghost use Rattle.analyser.specs.Means.{Means};
 ghost use Rattle.live.specs.Lent.{hostNumber};
-ghost use Rattle.host_answers.specs.Verdicts.{verdictNumber, verdictCode};
 use analyser::Verdict;
 use live::number_of;
 
+// Replays the rows of a leak from the file's start: 0 where each is carried out and the last is a grant that fits the question, or the first of
 // 1 to 8, 10, 15, the number of the first row that is refused, and 17. The cells hold what ran: up to 10 and 15 they are as they were.
 pub fn replay_leak(
     file: &[u8],
@@ -26,7 +24,9 @@ pub fn replay_leak(
     number_of(played)
 }
 
-// and then all four are 0. Unless it is a leak `rows` is as it was.
+// Answers a question of a file: 0 with the verdict (1 safe, 2 leak), how many pairs of user and session value can be open, how many values the
+// asked item can have, and how many rows the leak has, which then fill the front of `rows`, the rest as it was; or the first of 1 to 8, 9, 10 and 11,
+// and then all four are 0, the verdict too: none. Unless it is a leak `rows` is as it was.
 pub fn answer(
     file: &[u8],
     question: &[u8],
@@ -36,11 +36,7 @@ pub fn answer(
     values: &mut u64,
     count: &mut u64,
 ) -> u32
-    ensures { λ r. ⌜ r ≡ verdictNumber (told (reading (now (file .entry))) (now (question .entry)) (length (now (rows .entry))) .verdict) ⌝ }
-    ensures { λ r. ⌜ now (verdict .exit) ≡ verdictCode (told (reading (now (file .entry))) (now (question .entry)) (length (now (rows .entry))) .verdict) ⌝ }
-    ensures { λ r. ⌜ now (pairs .exit) ≡ told (reading (now (file .entry))) (now (question .entry)) (length (now (rows .entry))) .pairs ⌝ }
-    ensures { λ r. ⌜ now (values .exit) ≡ told (reading (now (file .entry))) (now (question .entry)) (length (now (rows .entry))) .values ⌝ }
-    ensures { λ r. ⌜ Means (now (file .entry)) (now (question .entry)) (now (rows .entry)) (now (rows .exit)) record { verdict = told (reading (now (file .entry))) (now (question .entry)) (length (now (rows .entry))) .verdict; pairs = now (pairs .exit); values = now (values .exit); rows = now (count .exit) } ⌝ }
+    ensures { λ r. ⌜ Means (now (file .entry)) (now (question .entry)) (now (rows .entry)) (now (rows .exit)) record { number = r; verdict = now (verdict .exit); pairs = now (pairs .exit); values = now (values .exit) } (now (count .exit)) ⌝ }
 {
     let a = analyser::analyse(file, question, rows);
     *pairs = a.pairs as u64;
@@ -50,9 +46,12 @@ pub fn answer(
     let v = a.verdict;
     match v {
         Verdict::Refused(n) => n as u32,
-        Verdict::Safe => 0,
-        Verdict::Leak => {
+        Verdict::Safe => {
             *verdict = 1;
+            0
+        }
+        Verdict::Leak => {
+            *verdict = 2;
             0
         }
     }

@@ -64,6 +64,8 @@ pub fn step(
     }
 }
 
+// Carries out rows one after another, each as `step` would, with one reading of the file, up to the first that gives a number: 0, or
+// the file's first number 1 to 8, with rows or without, or 12 to 16 of that row. `done` is how many were carried out; the cells and the next
 // numbers are as those rows left them.
 pub fn step_all(
     file: &[u8],

@@ -10,6 +10,7 @@ use lib.ListN.{replicate}
 use Rattle.bits.specs.Set.{properOf}
 use Rattle.policy.specs.Policy.{Policy, bitsFor}
 use Rattle.rules.specs.Answers.{Answer, refusal, rules, reading}
+use Rattle.runs.specs.Grant.{user, anything}
 use Rattle.allowed.specs.Allowed.{modelOf}
 use Rattle.cells.specs.Row.{bitsOf}
 use Rattle.cells.specs.declared.row.Row.{Row}
@@ -17,10 +18,8 @@ use Rattle.live.specs.Lent.{hostNumber}
 use Rattle.steps.specs.Step.{stepIn}
 use Rattle.starting.specs.Start.{started}
 use Rattle.replay.specs.Replay.{replayed}
-use Rattle.analyser.specs.Answer.{Told, told}
+use Rattle.analyser.specs.Answer.{rowsNeeded, noVerdict, safeVerdict, leakVerdict, Told, told}
 use Rattle.analyser.specs.Never.{Never}
-use Rattle.analyser.specs.declared.Verdict.{Verdict}
-use Rattle.analyser.specs.declared.Verdict.the-variants as Verdict
 
 -- the counter file
 unfoldable pub counterFile : List ℕ
@@ -52,15 +51,9 @@ ofUser0 = 64 ∷ 128 ∷ 0 ∷ []
 unfoldable pub ofUser1 : List ℕ
 ofUser1 = 65 ∷ 128 ∷ 0 ∷ []
 
--- the number of a verdict: 0 safe, 100 a leak, or the number that is given instead
-unfoldable pub verdictNumber : Verdict → ℕ
-verdictNumber Verdict.Safe = 0
-verdictNumber Verdict.Leak = 100
-verdictNumber (Verdict.Refused n) = n
-
--- verdict and counts
-unfoldable pub isTold : Told → ℕ → ℕ → ℕ → Bool
-isTold t verdict pairs values = eqb (verdictNumber (t .verdict)) verdict && (eqb (t .pairs) pairs && eqb (t .values) values)
+-- number, verdict and counts
+unfoldable pub isTold : Told → ℕ → ℕ → ℕ → ℕ → Bool
+isTold t number verdict pairs values = eqb (t .number) number && (eqb (t .verdict) verdict && (eqb (t .pairs) pairs && eqb (t .values) values))
 
 -- the number that replaying rows of the counter file gets, 0 for replayed
 unfoldable pub replayNumber : List ℕ → List ℕ → ℕ
@@ -82,15 +75,15 @@ widest =
 unfoldable pub table : List (ℕ × Bool)
 table =
     -- P1: user 1 never, counts 3 and 2
-    (1, isTold (told (reading counterFile) ofUser1 9) 0 3 2)
+    (1, isTold (told (reading counterFile) ofUser1 9) 0 safeVerdict 3 2)
     -- P2: user 0 can, and the rows replay
-    ∷ (2, isTold (told (reading counterFile) ofUser0 9) 100 3 2 && eqb (replayNumber ofUser0 shownRows) 0)
+    ∷ (2, isTold (told (reading counterFile) ofUser0 9) 0 leakVerdict 3 2 && eqb (replayNumber ofUser0 shownRows) 0)
     -- P3: without the third row 16 at the last
     ∷ (3, eqb (replayNumber ofUser0 shorterRows) 16)
     -- P4: the same rows for the other question: 17
     ∷ (4, eqb (replayNumber ofUser1 shownRows) 17)
     -- P5: widths 1 and 1 need 9 rows; 8 give 11
-    ∷ (5, isTold (told (reading counterFile) ofUser0 8) 11 0 0)
+    ∷ (5, isTold (told (reading counterFile) ofUser0 9) 0 leakVerdict 3 2 && isTold (told (reading counterFile) ofUser0 8) 11 noVerdict 0 0)
     -- P6: atomic size 1 takes 0 bits, 16 takes 4
     ∷ (6, eqb (bitsFor record { kind = 0; size = 1 }) 0 && eqb (bitsFor record { kind = 0; size = 16 }) 4)
     -- P7: {} is a proper subset of {0}; {0} is not of {0}; sets of size 1, {0} is the number 1
@@ -101,6 +94,8 @@ table =
       eqb (firstStep (reading counterFile) 4 record { kind = 1; actor = 1; target = 0; value = 1; spare = 0 }) 16
           && eqb (firstStep (reading counterFile) 4 record { kind = 1; actor = 0; target = 0; value = 1; spare = 0 }) 0,
     )
+    -- P9: widths 8 and 8 need 66,049 rows
+    ∷ (9, eqb (rowsNeeded widest) 66049)
     ∷ []
 
 -- whether every row of a table holds
@@ -108,9 +103,9 @@ unfoldable pub allHold : List (ℕ × Bool) → Bool
 allHold [] = true
 allHold (r ∷ rs) = r .1 && allHold rs
 
--- P1, of runs: whatever list of steps, of any length, is run from the counter file's start, no further step grants user 1 what is asked
+-- P1, of runs: of every list of steps, of any length, run from the counter file's start, no step in it grants user 1 permission 0 on any item
 abbrev pub CounterNever : Type 0
-CounterNever = (p : Policy) → reading counterFile ≡ rules p → Never p ofUser1
+CounterNever = (p : Policy) → reading counterFile ≡ rules p → Never p (user 1) anything 0
 
 -- every marked case holds
 abbrev pub PaperCases : Type 0

@@ -4,11 +4,9 @@ ghost use lib.ListN.{length};
 ghost use Rattle.rules.specs.Answers.{reading, filled};
 ghost use Rattle.live.specs.Lent.{lentAs, hostNumber};
 ghost use Rattle.replay.specs.Replay.{replayed};
-ghost use Rattle.analyser.specs.Answer.{told};
-ghost use Rattle.analyser.specs.Never.{Means};
+ghost use Rattle.analyser.specs.Means.{Means};
 ghost use Rattle.host_files.specs.Numbers.{numberOf, rewritten, writeNumber, writeLength};
 ghost use Rattle.host_steps.specs.Steps.{hostStarted, hostStepped, hostSteps};
-ghost use Rattle.host_answers.specs.Verdicts.{verdictNumber, verdictCode};
 
 // Reads a rule file: 0 where it is accepted, or the first number 1 to 8.
 #[no_mangle]
@@ -18,6 +16,7 @@ pub extern "C" fn rights_read(file: &[u8]) -> u32
     host_files::read(file)
 }
 
+// Reads a rule file and writes its rules back to the front of `out`: 0 and the length, or the first number 1 to 8, or 11 where `out` is
 // too short; then the length is 0 and `out` is as it was.
 #[no_mangle]
 pub extern "C" fn rights_write_back(file: &[u8], out: &mut [u8], size: &mut usize) -> u32
@@ -59,6 +58,8 @@ pub extern "C" fn rights_step(
     host_steps::step(file, sessions, items, session, item, row)
 }
 
+// Carries out rows one after another, each as `rights_step` would, with one reading of the file, up to the first that gives a number: 0, or
+// the file's first number 1 to 8, with rows or without, or 12 to 16 of that row. `done` is how many were carried out; the cells and the next
 // numbers are as those rows left them.
 #[no_mangle]
 pub extern "C" fn rights_steps(
@@ -77,6 +78,7 @@ pub extern "C" fn rights_steps(
     host_steps::step_all(file, sessions, items, session, item, rows, done)
 }
 
+// Replays the rows of a leak from the file's start: 0 where each is carried out and the last is a grant that fits the question, or the first of
 // 1 to 8, 10, 15, the number of the first row that is refused, and 17. The cells hold what ran: up to 10 and 15 they are as they were.
 #[no_mangle]
 pub extern "C" fn rights_replay(
@@ -93,7 +95,9 @@ pub extern "C" fn rights_replay(
     host_answers::replay_leak(file, question, rows, sessions, items)
 }
 
-// and then all four are 0. Unless it is a leak `rows` is as it was.
+// Answers a question of a file: 0 with the verdict (1 safe, 2 leak), how many pairs of user and session value can be open, how many values the
+// asked item can have, and how many rows the leak has, which then fill the front of `rows`, the rest as it was; or the first of 1 to 8, 9, 10 and 11,
+// and then all four are 0, the verdict too: none. Unless it is a leak `rows` is as it was.
 #[no_mangle]
 pub extern "C" fn rights_analyse(
     file: &[u8],
@@ -104,11 +108,7 @@ pub extern "C" fn rights_analyse(
     values: &mut u64,
     count: &mut u64,
 ) -> u32
-    ensures { λ r. ⌜ r ≡ verdictNumber (told (reading (now (file .entry))) (now (question .entry)) (length (now (rows .entry))) .verdict) ⌝ }
-    ensures { λ r. ⌜ now (verdict .exit) ≡ verdictCode (told (reading (now (file .entry))) (now (question .entry)) (length (now (rows .entry))) .verdict) ⌝ }
-    ensures { λ r. ⌜ now (pairs .exit) ≡ told (reading (now (file .entry))) (now (question .entry)) (length (now (rows .entry))) .pairs ⌝ }
-    ensures { λ r. ⌜ now (values .exit) ≡ told (reading (now (file .entry))) (now (question .entry)) (length (now (rows .entry))) .values ⌝ }
-    ensures { λ r. ⌜ Means (now (file .entry)) (now (question .entry)) (now (rows .entry)) (now (rows .exit)) record { verdict = told (reading (now (file .entry))) (now (question .entry)) (length (now (rows .entry))) .verdict; pairs = now (pairs .exit); values = now (values .exit); rows = now (count .exit) } ⌝ }
+    ensures { λ r. ⌜ Means (now (file .entry)) (now (question .entry)) (now (rows .entry)) (now (rows .exit)) record { number = r; verdict = now (verdict .exit); pairs = now (pairs .exit); values = now (values .exit) } (now (count .exit)) ⌝ }
 {
     host_answers::answer(file, question, rows, verdict, pairs, values, count)
 }

@@ -25,7 +25,7 @@ same-length c = search needs
 returns : tie.Need-returns
 returns c =
     let k = c .before .before .before .before .before .analyse in
-    tells-number _ _ _ _ (k .result) _ (k .ensures .0) (k .ensures .1) _ (c .before .v .given .1)
+    tells-number _ _ _ _ (k .result) (k .ensures) _ (c .before .v .given .1)
 
 same-length-2 : tie.Need-same-length-2
 same-length-2 c = search needs
@@ -33,7 +33,7 @@ same-length-2 c = search needs
 returns-2 : tie.Need-returns-2
 returns-2 c =
     let k = c .before .before .before .before .analyse in
-    tells-safe _ _ _ _ (k .result) _ (k .ensures .0) (k .ensures .1) (c .enum-told .given .1)
+    tells-safe _ _ _ _ (k .result) (k .ensures) (c .enum-told .given .1)
 
 same-length-3 : tie.Need-same-length-3
 same-length-3 c = search needs
@@ -41,7 +41,7 @@ same-length-3 c = search needs
 returns-3 : tie.Need-returns-3
 returns-3 c =
     let k = c .before .before .before .before .analyse in
-    tells-leak _ _ _ _ (k .result) _ (k .ensures .0) (k .ensures .1) (c .enum-told2 .given .1)
+    tells-leak _ _ _ _ (k .result) (k .ensures) (c .enum-told2 .given .1)
 
 pub answer-spec : {M : Type 1} → statement M
 answer-spec =

@@ -1,1 +1,0 @@
-pub mod Verdicts  -- what the call of the analyser tells

@@ -6,7 +6,6 @@ use mathlib.Core.List.{List}
 use Prim.Native.Nat.{ℕ, _≤_, _<_}
 use native.Mathlib.Decide.{decLt}
 use native.Mathlib.Omega.{arith}
-use lib.ListN.{length}
 use Rattle.policy.specs.Policy.{Policy}
 use Rattle.rules.specs.Answers.{Answer as Read, refusal, rules, reading}
 use Rattle.rules.proofs.Theorems.{reading-numbers}

@@ -1,10 +1,10 @@
 -- An answer that gives a number, as the published promise has it.
-use mathlib.Core.Path.{_≡_, sym, ap, _∙_, subst}
+use mathlib.Core.Path.{_≡_, sym, subst}
 use mathlib.Core.List.{List}
 use Prim.Native.Nat.{ℕ}
 use lib.ListN.{length}
 use Rattle.rules.specs.Answers.{reading}
-use Rattle.analyser.specs.Answer.{Told, toldOf, told, refused}
+use Rattle.analyser.specs.Answer.{Told, told, refused}
 use Rattle.analyser.specs.Means.{Means}
 use Rattle.analyser.specs.declared.Answer.{Answer}
 use Rattle.analyser.specs.declared.Verdict.the-variants as Verdict

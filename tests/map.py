@@ -1,6 +1,7 @@
 """What docs/MAP.md cites is there: names are declared in their crate, edits and sections of the table of cases exist, no place stands twice.
-And nothing is left out: every must-fail edit and every claim stands in some row. What docs/PROVED.md has in a column headed "claim" is a claim, every
-claim has a proof term, and each of the paper's marked cases P1 to P9 has a row, under a comment with its name, in the table of crates/p_cases.
+And nothing is left out: every must-fail edit and every claim stands in some row. What docs/PROVED.md has in a column headed "claim" is a claim, the edits
+that it names exist, every claim has a proof term, and each of the paper's marked cases P1 to P9 has a row, under a comment with its name, in the
+table of crates/p_cases.
 A claim is a type without parameters in specs/Claims.antt or specs/Cases.antt of a crate; its proof term is `pub some-name : TheClaim`, exactly, in
 the crate's proofs."""
 import os
@@ -92,6 +93,8 @@ wrong += [f"the claim {claim} has no proof term" for claim in sorted(claims - pr
 short = {claim.split("::")[1] for claim in claims}
 listed = [name for cells in rows("docs/PROVED.md", "claim") for name in quoted(cells[0])]
 wrong += [f"docs/PROVED.md: {name} is no claim of any crate" for name in listed if name not in short]
+shown = [name for name in quoted(read("docs/PROVED.md")) if re.fullmatch(r"\w+/\w+", name) and name.split("/")[0] in crates]
+wrong += [f"docs/PROVED.md: no edit {name}" for name in shown if name not in edits]
 
 table = re.search(r"^table =\n(.*?)\n\n", read(CASES), re.M | re.S)
 marked = re.findall(r"-- P(\d+):.*\n(?:\s*-- (?!P\d).*\n)*\s*(?:∷ )?\(\s*(\d+),", table[1]) if table else []

@@ -97,7 +97,8 @@ pub fn count_pairs(users: [Found; 16]) -> usize
     let mut n: usize = 0;
     for u in 0..16 {
         let q = users[u];
-        n += q.len;
+        let found = q.len;
+        n += found;
     }
     n
 }

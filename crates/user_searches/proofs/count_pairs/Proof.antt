@@ -30,12 +30,12 @@ array-copy-out-q c = search needs
 
 add-n : tie.Need-add-n Inv-loop μ-loop
 add-n c =
-    let a = c .before .before .before .before .args in
-    let l = c .before .before .before .loop in
+    let a = c .before .before .before .args in
+    let l = c .before .before .loop in
     let n : length (a .t1) ≡ 16 = search needs in
     let d : Found = record { seen = []; order = []; from = []; via = []; depth = []; place = []; len = 0 } in
     let same = ap (λ (q : Found). q .len) (getD-any (a .t1) (l .u) d nothing (omega arith)) in
-    omega (arith, c .before .before .before .before .pre (l .u) (omega arith), same)
+    omega (arith, c .before .before .before .pre (l .u) (omega arith), same)
 
 add-u : tie.Need-add-u Inv-loop μ-loop
 add-u c = search needs
@@ -45,11 +45,11 @@ loop-less c = search needs
 
 loop-again : tie.Need-loop-again Inv-loop μ-loop
 loop-again c =
-    let a = c .before .before .before .before .args in
-    let l = c .before .before .before .loop in
+    let a = c .before .before .before .args in
+    let l = c .before .before .loop in
     let n : length (a .t1) ≡ 16 = search needs in
     let same = ap (λ (q : Found). q .len) (getD-any (a .t1) (l .u) _ nothing (omega arith)) in
-    (search needs, ap₂ _+_ (l .inv .1) same ∙ sym (pairs-more (a .t1) (l .u)), omega (arith, c .before .before .before .before .pre (l .u) (omega arith), same))
+    (search needs, ap₂ _+_ (l .inv .1) same ∙ sym (pairs-more (a .t1) (l .u)), omega (arith, c .before .before .before .pre (l .u) (omega arith), same))
 
 returns : tie.Need-returns Inv-loop μ-loop
 returns c =

@@ -1,10 +1,11 @@
 -- Laws of replay. In order: a question's tests over the rules as they lie in memory; whether a session and a row fit; rows from one on, where it is
--- carried out, where it is refused, and the end; what a replay answers, by how far it came.
-use mathlib.Core.Path.{_≡_, refl, sym, ap, _∙_}
+-- carried out, where it is refused, and the end; a number is given exactly where fewer rows than all were carried out; what a replay answers, by
+-- how far it came.
+use mathlib.Core.Path.{_≡_, refl, sym, ap, subst, _∙_}
 use mathlib.Core.Bool.{Bool, true, false, _&&_, cond}
 use mathlib.Core.List.{List, [], _∷_}
 use mathlib.Core.Option.{Option, none, some}
-use Prim.Native.Nat.{ℕ, suc, _+_, _-_, _<_}
+use Prim.Native.Nat.{ℕ, suc, _+_, _-_, _≤_, _<_}
 use native.Mathlib.Numerals.{add-one}
 use native.Mathlib.Omega.{arith}
 use borrow.Author.Tests.{eq-eqb, ne-eqb}
@@ -179,6 +180,46 @@ rows-all m s rows i e =
     let d : drop i rows ≡ [] = past (drop i rows) (omega (arith, length-drop i rows)) in
     rw d (ap (λ (n : ℕ). record { refusal = none; lent = s; count = n }) e)
 
+-- how many rows were carried out
+
+-- of rows that end at n: a number is given, and fewer were carried out; or none is, and all were
+data Counted (r : Ran) (n : ℕ) : Type 0 where
+  fewer : (k : ℕ) → r .refusal ≡ some k → r .count < n → Counted r n
+  every : r .refusal ≡ none → r .count ≡ n → Counted r n
+
+counted-further : (o : Option ℕ) (s : Lent) (done : ℕ) (f : ℕ → Ran) (n : ℕ) → done < n → Counted (f (done + 1)) n → Counted (further o s done f) n
+unfolding further
+counted-further none s done f n h c = c
+counted-further (some k) s done f n h c = fewer k refl h
+
+-- by induction on the rows
+counted : (m : Model) (s : Lent) (done : ℕ) (rows : List ℕ) (n : ℕ) → n ≡ done + length rows → Counted (rowsIn m s done rows) n
+unfolding rowsIn ranAll
+counted m s done [] n e = every refl (omega arith)
+counted m s done (row ∷ rows) n e =
+    let a = stepIn m s row in
+    counted-further (a .refusal) (a .lent) done (λ k. rowsIn m (a .lent) k rows) n (omega arith) (counted m (a .lent) (done + 1) rows n (omega arith))
+
+module _ (m : Model) (s t : Lent) (rows : List ℕ) {x : Option ℕ} {k : ℕ} (e : record { refusal = x; lent = t; count = k } ≡ rowsIn m s 0 rows) where
+  count-is : Counted record { refusal = x; lent = t; count = k } (length rows)
+  count-is = subst (λ (r : Ran). Counted r (length rows)) (sym e) (counted m s 0 rows (length rows) (omega arith))
+
+  -- fewer rows than all were carried out, so a number is given
+  pub rows-fewer : k < length rows → (n : ℕ) × (x ≡ some n)
+  rows-fewer h = go count-is
+    where
+      go : Counted record { refusal = x; lent = t; count = k } (length rows) → (n : ℕ) × (x ≡ some n)
+      go (fewer n f l) = (n, f)
+      go (every f l) = absurd (omega arith)
+
+  -- all were, so none is
+  pub rows-every : length rows ≤ k → x ≡ none
+  rows-every h = go count-is
+    where
+      go : Counted record { refusal = x; lent = t; count = k } (length rows) → x ≡ none
+      go (fewer n f l) = absurd (omega arith)
+      go (every f l) = f
+
 -- what a replay answers
 
 -- a number, if one is given, and two slices are what a call leaves
@@ -217,14 +258,13 @@ module _ {a : Answer} (question rows sessions items : List ℕ) where
         unfolding played
         ran e = play ∙ rw (← begun, d, e) refl
 
-        -- a row is refused
-        pub replay-stopped : {x : Option ℕ} {n k : ℕ} {t : Lent} → record { refusal = x; lent = t; count = k } ≡ rowsIn (modelOf p) s 0 rows → x ≡ some n
-            → record { refusal = some n; lent = t } ≡ replayed a question rows sessions items
-        unfolding judged refused
-        replay-stopped e f = sym (ran e ∙ rw f refl)
+        module _ {x : Option ℕ} {k : ℕ} {t : Lent} (e : record { refusal = x; lent = t; count = k } ≡ rowsIn (modelOf p) s 0 rows) where
+          -- a row is refused
+          pub replay-stopped : {n : ℕ} → x ≡ some n → record { refusal = x; lent = t } ≡ replayed a question rows sessions items
+          unfolding judged refused
+          replay-stopped f = sym (ran e ∙ rw f refl)
 
-        module _ {x : Option ℕ} {k : ℕ} {t : Lent} (e : record { refusal = x; lent = t; count = k } ≡ rowsIn (modelOf p) s 0 rows) (f : x ≡ none) where
-          module _ {b : Bool} {q : Question} (h : b ≡ lastFits (modelOf p) t q rows) (g : q ≡ partsOf question) where
+          module _ (f : x ≡ none) {b : Bool} {q : Question} (h : b ≡ lastFits (modelOf p) t q rows) (g : q ≡ partsOf question) where
             -- the last row fits
             pub replay-shown : b ≡ true → record { refusal = none; lent = t } ≡ replayed a question rows sessions items
             unfolding judged

@@ -51,12 +51,9 @@ pub fn replay(
         Outcome::Done => {}
     }
     let ran = steps_at(rules, sessions, items, begun.next, rows);
-    let outcome = ran.outcome;
-    match outcome {
-        Outcome::Refused(n) => {
-            return Outcome::Refused(n);
-        }
-        Outcome::Done => {}
+    // A row was refused.
+    if ran.count < rows.len() {
+        return ran.outcome;
     }
     if fits::last_fits(rules, sessions, ran.next, Question::of(question), rows) {
         Outcome::Done

@@ -7,7 +7,7 @@ use Rattle.rules.proofs.Laws.{was-accepted, was-refused}
 use Rattle.live.specs.Lent.{refusalOf}
 use Rattle.live.proofs.Laws.{held, denied}
 use Rattle.replay.specs.Question.{asks}
-use Rattle.replay.proofs.Laws.{leaving, replay-unread, replay-unasked, replay-unstarted, replay-stopped, replay-shown, replay-missed}
+use Rattle.replay.proofs.Laws.{leaving, rows-fewer, rows-every, replay-unread, replay-unasked, replay-unstarted, replay-stopped, replay-shown, replay-missed}
 use borrow.Author.Needs.{needs}
 use Rattle.replay.proofs.replay.Statement.{statement}
 use Rattle.replay.proofs.replay.Tie as tie
@@ -76,9 +76,6 @@ enum-told-2 c = search needs
 steps-at-requires : tie.Need-steps-at-requires
 steps-at-requires c κs = search needs
 
-enum-known-outcome-2 : tie.Need-enum-known-outcome-2
-enum-known-outcome-2 c = search needs
-
 same-length-3 : tie.Need-same-length-3
 same-length-3 c = search needs
 
@@ -87,17 +84,14 @@ same-length-4 c = search needs
 
 returns-4 : tie.Need-returns-4
 returns-4 c =
-    let w = c .before .before .before .before .before .before .before in
+    let w = c .before .before .before .before .before .before in
     let v = w .before .before .before .before .before .before .before .before .before in
     let n = v .before .before .before in
     let t = n .before .before in
     let a = t .before .before .before .before .before .before .before .before .before .args in
     leaving
     (replay-stopped (a .question .now) (a .rows .now) (a .sessions .now) (a .items .now) _ (read t) (asking n)
-    (v .start-with .ensures) (ap refusalOf (w .before .before .before .enum-told2 .given .1)) (w .steps-at .ensures) (ap refusalOf (c .before .outcome2 .given .1)))
-
-enum-told-3 : tie.Need-enum-told-3
-enum-told-3 c = search needs
+    (v .start-with .ensures) (ap refusalOf (w .before .before .before .enum-told2 .given .1)) (w .steps-at .ensures) (rows-fewer _ _ _ (a .rows .now) (w .steps-at .ensures) (c .if2 .taken) .1))
 
 of-requires : tie.Need-of-requires
 of-requires c κs = search needs
@@ -120,8 +114,8 @@ returns-5 c =
     let a = t .before .before .before .before .before .before .before .before .before .args in
     leaving
     (replay-shown (a .question .now) (a .rows .now) (a .sessions .now) (a .items .now) _ (read t) (asking n)
-    (v .start-with .ensures) (ap refusalOf (w .before .before .before .enum-told2 .given .1)) (w .steps-at .ensures) (ap refusalOf (c .before .before .before .before .enum-told3 .given .1))
-    (c .before .last-fits .ensures _) (c .before .before .of .ensures) (c .if2 .taken))
+    (v .start-with .ensures) (ap refusalOf (w .before .before .before .enum-told2 .given .1)) (w .steps-at .ensures) (rows-every _ _ _ (a .rows .now) (w .steps-at .ensures) (c .before .before .before .before .if2 .left))
+    (c .before .last-fits .ensures _) (c .before .before .of .ensures) (c .if3 .taken))
 
 same-length-7 : tie.Need-same-length-7
 same-length-7 c = search needs
@@ -138,8 +132,8 @@ returns-6 c =
     let a = t .before .before .before .before .before .before .before .before .before .args in
     leaving
     (replay-missed (a .question .now) (a .rows .now) (a .sessions .now) (a .items .now) _ (read t) (asking n)
-    (v .start-with .ensures) (ap refusalOf (w .before .before .before .enum-told2 .given .1)) (w .steps-at .ensures) (ap refusalOf (c .before .before .before .before .enum-told3 .given .1))
-    (c .before .last-fits .ensures _) (c .before .before .of .ensures) (c .if2 .left))
+    (v .start-with .ensures) (ap refusalOf (w .before .before .before .enum-told2 .given .1)) (w .steps-at .ensures) (rows-every _ _ _ (a .rows .now) (w .steps-at .ensures) (c .before .before .before .before .if2 .left))
+    (c .before .last-fits .ensures _) (c .before .before .of .ensures) (c .if3 .left))
 
 pub replay-spec : {M : Type 1} → statement M
 replay-spec =
@@ -158,11 +152,9 @@ replay-spec =
     returns-3
     enum-told-2
     steps-at-requires
-    enum-known-outcome-2
     same-length-3
     same-length-4
     returns-4
-    enum-told-3
     of-requires
     last-fits-requires
     same-length-5

@@ -37,7 +37,7 @@ returns c =
     let a = c .before .before .before .before .before .before .before .before .before .args in
     decided-safe (a .rules) _ (a .q) (c .before .before .before .before .before .before .helpers .result) (c .before .before .before .before .before .item-values .result) (c .before .before .before .before .session-values .result) (c .before .before .before .who-values .result) (c .before .hit-place .result)
     (c .before .before .before .before .before .before .helpers .ensures) (c .before .before .before .before .before .item-values .ensures) (c .before .before .before .before .session-values .ensures) (c .before .before .before .who-values .ensures) (c .before .hit-place .ensures)
-    _ _ (c .before .before .count-pairs .ensures) refl refl refl (c .if1 .taken)
+    _ _ (c .before .before .count-pairs .ensures) refl refl refl (omega (arith, c .if1 .taken))
 
 hit-value-requires : tie.Need-hit-value-requires
 hit-value-requires c κs = search needs

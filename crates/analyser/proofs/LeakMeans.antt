@@ -13,8 +13,7 @@ use Rattle.lists.specs.Sound.{Sound, startingSession}
 use Rattle.lists.proofs.Laws.{listed-byte}
 use Rattle.runs.specs.State.{begin}
 use Rattle.runs.specs.Reach.{Brought}
-use Rattle.verdict.specs.Verdict.{leaks}
-use Rattle.verdict.proofs.Theorems.{brought-is-computed}
+use Rattle.verdict.specs.Verdict.{allBrought, leaks}
 use Rattle.allowed.specs.Allowed.{modelOf}
 use Rattle.starting.specs.Start.{beginning}
 use Rattle.cells.specs.Leak.{IsLeak}
@@ -24,29 +23,33 @@ use Rattle.search.specs.declared.queue.Found.{Found}
 use Rattle.session_rows.specs.Writing.{writingOf}
 use Rattle.leak.proofs.Theorems.{leak-is-written}
 use Rattle.analyser.specs.Answer.{sessionValues, itemValues, rowsNeeded, startsBrought}
-use Rattle.user_searches.specs.Found.{UsersFound, anyHas}
+use Rattle.user_searches.specs.Found.{UsersFound, anyHas, allFound}
 use Rattle.goal.specs.Asked.{itemFound, sessionFound, aimOf}
 use Rattle.analyser.specs.Decide.{startsFound, leakPlace, leakValue, LeakLeft}
 use Rattle.analyser.proofs.Widths.{needed-is, sessions-few, items-few, users-are}
+use Rattle.analyser.proofs.Starts.{brought-of}
 use Rattle.user_searches.proofs.UsersReach.{all-agree}
 use Rattle.analyser.proofs.Hits.{Hit, hit-here, hits-agree}
 use Rattle.analyser.proofs.Asked.{Asks, asked-which, aim-permission, below, few-users, tested, who-tests}
 use Rattle.analyser.proofs.Aims.{item-search, hit-aimed, pen-stands}
 
 module _ (r : Rules) (q : Question) (sound : Sound (policyOf r)) (users : List Found) (found : UsersFound (modelOf (policyOf r)) users) where
-  -- the starting sessions were all found exactly where they could have been brought about
-  pub all-found-agree : startsFound r users ≡ startsBrought (policyOf r)
-  unfolding startsBrought beginning begin policyOf startingSession
-  all-found-agree =
+  found-agree : allFound users (sessionsOf (r .sessions)) ≡ allBrought (modelOf (policyOf r)) (sessionValues (policyOf r)) (beginning (policyOf r) .sessions)
+  unfolding beginning begin policyOf startingSession
+  found-agree =
       all-agree (modelOf (policyOf r)) (beginning (policyOf r)) _ _ (below r q sound) (sessions-few (policyOf r) sound) (few-users r q sound) users found (sessionsOf (r .sessions))
       (λ j h. (
         omega (arith, users-are (policyOf r), sound .session-user j h),
         listed-byte (policyOf r .lists .ofSession) (startingSession (policyOf r) j .value) (sound .session-value j h),
       ))
 
-  pub all-brought : startsFound r users ≡ true → Brought (modelOf (policyOf r)) (beginning (policyOf r))
+  -- the starting sessions were all found exactly where they could have been brought about
+  pub all-found-agree : startsFound r users ≡ startsBrought (policyOf r)
   unfolding startsBrought
-  all-brought t = brought-is-computed (modelOf (policyOf r)) (beginning (policyOf r)) _ _ (below r q sound) .0 (sym all-found-agree ∙ t)
+  all-found-agree = found-agree
+
+  pub all-brought : startsFound r users ≡ true → Brought (modelOf (policyOf r)) (beginning (policyOf r))
+  all-brought t = brought-of (policyOf r) sound (sym all-found-agree ∙ t)
 
   leak-hit : leakPlace r users q < 256
       → Hit (modelOf (policyOf r)) (q .permission) (tested r q sound users found) (itemFound r (anyHas users) q) (leakPlace r users q) (leakValue r users q)

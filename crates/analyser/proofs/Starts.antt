@@ -41,14 +41,18 @@ module _ (p : Policy) where
       (h, cc, cc)
 
   module _ (sound : Sound p) where
-    brought : (startsBrought p ≡ true) ↔ Brought (modelOf p) (beginning p)
+    pub brought-of : startsBrought p ≡ true → Brought (modelOf p) (beginning p)
     unfolding startsBrought
-    brought = brought-is-computed (modelOf p) (beginning p) (sessionValues p) (itemValues p) (beginning-below p sound)
+    brought-of t = brought-is-computed (modelOf p) (beginning p) (sessionValues p) (itemValues p) (beginning-below p sound) .0 t
+
+    of-brought : Brought (modelOf p) (beginning p) → startsBrought p ≡ true
+    unfolding startsBrought
+    of-brought b = brought-is-computed (modelOf p) (beginning p) (sessionValues p) (itemValues p) (beginning-below p sound) .1 b
 
     pub starts-could : (startsBrought p ≡ true) ↔ StartCould p
     starts-could = (
-      λ t k h. could-reach _ _ .1 (brought .0 t k _ _ (beginning-session p k h)),
-      λ c. brought .1 λ k u v e.
+      λ t k h. could-reach _ _ .1 (brought-of t k _ _ (beginning-session p k h)),
+      λ c. of-brought λ k u v e.
           let (h, x, y) = starts-as k u v e in
           subst (λ (a : ℕ). Reach (modelOf p) a v) x (subst (Reach (modelOf p) (startingSession p k .user)) y (could-reach _ _ .0 (c k h))),
     )

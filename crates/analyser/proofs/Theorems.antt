@@ -13,7 +13,7 @@ use Rattle.lists.specs.Sound.{Sound}
 use Rattle.runs.specs.Grant.{Leak}
 use Rattle.runs.proofs.Theorems.{no-step-is-no-leak}
 use Rattle.verdict.specs.Verdict.{leaks}
-use Rattle.verdict.proofs.Theorems.{verdict-is-computed, brought-is-computed}
+use Rattle.verdict.proofs.Theorems.{verdict-is-computed}
 use Rattle.allowed.specs.Allowed.{modelOf}
 use Rattle.cells.specs.Leak.{IsLeak}
 use Rattle.steps.proofs.Files.{file-sound}
@@ -28,7 +28,7 @@ use Rattle.analyser.specs.Claims.{Demand3, SafeIsNever, NineIsExact, Ten
 use Rattle.analyser.proofs.Widths.{beginning-below}
 use Rattle.analyser.proofs.Asked.{asks-something, asked-who, asked-which}
 use Rattle.analyser.proofs.Decides.{refused-none, rules-same}
-use Rattle.analyser.proofs.Starts.{starts-could}
+use Rattle.analyser.proofs.Starts.{brought-of, starts-could}
 use Rattle.analyser.proofs.Numbers.{Came, unread, nine, ten, eleven, judged, came, asks-is, decided-two, is-nine, is-ten, is-eleven, is-decided, is-judged}
 
 safe-not : (b : Bool) → cond b leakVerdict safeVerdict ≡ safeVerdict → b ≡ true → ⊥
@@ -50,12 +50,9 @@ module _ (p : Policy) (question : List ℕ) (sound : Sound p) (all : startsBroug
   decided-verdict = refl
 
   leaking-is : (leaking ≡ true) ↔ Leak (modelOf p) (beginning p) (whoOf (partsOf question)) (whichOf (partsOf question)) (partsOf question .permission)
-  unfolding startsBrought
   leaking-is =
-      let below = beginning-below p sound in
-      let brought = brought-is-computed (modelOf p) (beginning p) (sessionValues p) (itemValues p) below .0 all in
       let asking = asks-something p question asked in
-      verdict-is-computed (modelOf p) (beginning p) (sessionValues p) (itemValues p) below brought (whoOf (partsOf question)) (whichOf (partsOf question))
+      verdict-is-computed (modelOf p) (beginning p) (sessionValues p) (itemValues p) (beginning-below p sound) (brought-of p sound all) (whoOf (partsOf question)) (whichOf (partsOf question))
       (partsOf question .permission) (asked-who p (partsOf question) (asking .who)) (asked-which p (partsOf question) (asking .item))
 
   no-step : Never p (whoOf (partsOf question)) (whichOf (partsOf question)) (partsOf question .permission)
@@ -102,7 +99,7 @@ demand3 file question before after t n M p r could who which permission A enough
       );
       leak = λ w. (
         let l = M .leak w p r in
-        of-asked (λ who which permission. IsLeak (modelOf p) (beginning p) who which permission (take n after)) p question
+            of-asked (λ who which permission. IsLeak (modelOf p) (beginning p) who which permission (take n after)) p question
             (of-parts (λ who which permission. IsLeak (modelOf p) (beginning p) who which permission (take n after)) p question (l .who) (l .which) (l .permission) (l .asked) (l .leak))
             who which permission A,
         M .replays w p r,

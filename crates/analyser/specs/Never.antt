@@ -46,16 +46,17 @@ StartCouldNot p = (k : ℕ) × (k < length (p .sessions)) × (CouldBring p (star
 abbrev pub AsksSomething : Policy → List ℕ → Type 0
 AsksSomething p question = (who : Who) × (which : Which) × (permission : ℕ) × Asked p question who which permission
 
--- [01:The question, "the slice needs 2^s + 2^o × (2^s + 1) + 1 rows"]: there are so many
-abbrev pub RowsEnough : Policy → ℕ → Type 0
-RowsEnough p room =
+-- [01:The question, "With session width s and item width o, the slice needs .."]
+abbrev pub rowsByWidths : Policy → ℕ
+rowsByWidths p =
     let s = width (p .lists .ofSession) in
     let o = width (p .lists .ofItem) in
-    2 ^ s + 2 ^ o * (2 ^ s + 1) + 1 ≤ room
+    2 ^ s + 2 ^ o * (2 ^ s + 1) + 1
+
+-- there are so many rows
+abbrev pub RowsEnough : Policy → ℕ → Type 0
+RowsEnough p room = rowsByWidths p ≤ room
 
 -- there are fewer
 abbrev pub RowsTooFew : Policy → ℕ → Type 0
-RowsTooFew p room =
-    let s = width (p .lists .ofSession) in
-    let o = width (p .lists .ofItem) in
-    room < 2 ^ s + 2 ^ o * (2 ^ s + 1) + 1
+RowsTooFew p room = room < rowsByWidths p

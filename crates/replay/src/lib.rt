@@ -1,6 +1,5 @@
 // Replay: a leak's rows are run from a file's start, and the last must be the grant that was asked about.
 ghost use mathlib.Core.Path.{_≡_};
-ghost use Rattle.policy.specs.Rules.{policyOf};
 ghost use Rattle.rules.specs.Answers.{reading};
 ghost use Rattle.live.specs.Lent.{refusalOf};
 ghost use Rattle.replay.specs.Replay.{replayed};

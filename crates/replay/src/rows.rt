@@ -3,7 +3,7 @@ ghost use mathlib.Core.Path.{_≡_};
 ghost use Rattle.policy.specs.Rules.{policyOf};
 ghost use Rattle.allowed.specs.Allowed.{modelOf};
 ghost use Rattle.live.specs.Lent.{lentAs, refusalOf};
-ghost use Rattle.replay.specs.Rows.{Ran, rowsIn};
+ghost use Rattle.replay.specs.Rows.{rowsIn};
 use live::Next;
 use live::Outcome;
 use monitor::step_at;

@@ -17,8 +17,8 @@ abbrev pub StartIsTheBeginning : Type 0
 StartIsTheBeginning = (file : List ℕ) (p : Policy) → reading file ≡ rules p → (sessions items : List ℕ)
     → started (reading file) sessions items .refusal ≡ none → Codes (modelOf p) (started (reading file) sessions items .lent) (beginning p)
 
--- [Demand 1; 01:When a number is given instead, "Starting the monitor gives 15 when .."]: carried out exactly when the file is read and there are as
--- many cells as starting sessions and items
+-- [Demand 1; 01:When a number is given instead, "Starting the monitor gives 15 when .."]: carried out exactly when the file is read and there are at
+-- least as many cells as starting sessions, and as starting items
 abbrev pub StartIsExact : Type 0
 StartIsExact = (file sessions items : List ℕ) → (started (reading file) sessions items .refusal ≡ none)
     ↔ ((p : Policy) × (reading file ≡ rules p) × (length (p .sessions) ≤ length sessions) × (length (p .items) ≤ length items))

@@ -61,7 +61,8 @@ def rows(path, head):
 crates = sorted(os.listdir("crates"))
 names = {crate: declared(crate) for crate in crates}
 edits = {f"{crate}/{name[:-5]}" for crate in crates if os.path.isdir(f"crates/{crate}/must-fail") for name in os.listdir(f"crates/{crate}/must-fail")}
-sections = {name for table in ("rules", "steps") for name in re.findall(r"^# ---- (.*?) ----$", read(f"tests/vectors/{table}.txt"), re.M)}
+sections = {name for table in ("rules", "steps", "runs") for name in re.findall(r"^# ---- (.*?) ----$", read(f"tests/vectors/{table}.txt"), re.M)}
+sections |= set(re.findall(r"^rules \w+$", read("tests/vectors/questions.txt"), re.M))
 claims = found("specs", ("Claims.antt", "Cases.antt"), r"^(?:abbrev pub|pub record) ([A-Z]\w+) : Type")
 proved = found("proofs", (".antt",), r"^pub [^\s:]+\s*:\s*([A-Z]\w+) *\n(?=\S)")
 

@@ -111,6 +111,7 @@ int main(void) {
     replay(counter, 33, user_0, 3, leak, 4, MOST, MOST, 0, 1, 1);
     is("the session's cell", 65537, lent[SESSIONS][0]);
     is("the item's cell", 65537, lent[ITEMS][0]);
+    replay(counter, 33, user_0, 3, leak, 4, 1, 1, 0, 1, 1); /* cells that are just enough */
     replay(counter, 33, user_0, 3, unchanged, 3, MOST, MOST, 16, 1, 1);
     is("the item's cell", 65536, lent[ITEMS][0]);
     replay(counter, 33, user_1, 3, leak, 4, MOST, MOST, 17, 1, 1);

@@ -1,7 +1,8 @@
 """What docs/MAP.md cites is there: names are declared in their crate, edits and sections of the table of cases exist, no place stands twice.
 And nothing is left out: every must-fail edit and every claim stands in some row. What docs/PROVED.md has in a column headed "claim" is a claim, the edits
 that it names exist, every claim has a proof term, and each of the paper's marked cases P1 to P9 has a row, under a comment with its name, in the
-table of crates/p_cases.
+table of crates/p_cases. Each file of definitions stands once in the tables of docs/PROVED.md, with its lines, imports and empty lines left out, and those
+that must be believed come to at most 1,500 (`--write` puts the counts in).
 A claim is a type without parameters in specs/Claims.antt or specs/Cases.antt of a crate; its proof term is `pub some-name : TheClaim`, exactly, in
 the crate's proofs."""
 import os
@@ -96,6 +97,25 @@ listed = [name for cells in rows("docs/PROVED.md", "claim") for name in quoted(c
 wrong += [f"docs/PROVED.md: {name} is no claim of any crate" for name in listed if name not in short]
 shown = [name for name in quoted(read("docs/PROVED.md")) if re.fullmatch(r"\w+/\w+", name) and name.split("/")[0] in crates]
 wrong += [f"docs/PROVED.md: no edit {name}" for name in shown if name not in edits]
+
+MOST = 1500
+counts = {}
+for path in (path for crate in crates for path in files(f"crates/{crate}/specs", ".antt")):
+    if not path.endswith("/Lib.antt"):
+        counts[path] = sum(1 for line in read(path).split("\n") if line.strip() and not line.startswith("use "))
+proved_text = read("docs/PROVED.md")
+believed = re.search(r"^### Definitions that must be believed\n(.*?)^###", proved_text, re.M | re.S)[1]
+total = sum(counts.get(path, 0) for path in re.findall(r"^\| (crates/\S+)", believed, re.M))
+if "--write" in sys.argv:
+    proved_text = re.sub(r"^\| (crates/\S+) \| \d+ \|", lambda row: f"| {row[1]} | {counts.get(row[1], 0)} |", proved_text, flags=re.M)
+    proved_text = re.sub(r"^[\d,]+ lines in all\.$", f"{total:,} lines in all.", proved_text, flags=re.M)
+    with open("docs/PROVED.md", "w", encoding="utf-8") as file:
+        file.write(proved_text)
+stated = re.findall(r"^\| (crates/\S+) \| (\d+) \|", proved_text, re.M)
+wrong += [f"docs/PROVED.md: {path} has {counts.get(path, 'no')} lines" for path, n in stated if counts.get(path) != int(n)]
+wrong += [f"docs/PROVED.md: {path} stands in {n} tables" for path in counts for n in [sum(path == other for other, _ in stated)] if n != 1]
+if total > MOST or f"{total:,} lines in all." not in believed and "--write" not in sys.argv:
+    wrong.append(f"docs/PROVED.md: the definitions that must be believed have {total:,} lines; at most {MOST:,}")
 
 table = re.search(r"^table =\n(.*?)\n\n", read(CASES), re.M | re.S)
 marked = re.findall(r"-- P(\d+):.*\n(?:\s*-- (?!P\d).*\n)*\s*(?:∷ )?\(\s*(\d+),", table[1]) if table else []

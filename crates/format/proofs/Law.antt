@@ -16,10 +16,11 @@ use Rattle.bits.specs.Field.{numberAt}
 use Rattle.bits.specs.Packed.{widths}
 use Rattle.bits.proofs.Laws.{number-lt}
 use Rattle.bits.proofs.Packed.{widths-app}
-use Rattle.format.specs.Format.{ok, Format, unless, tested, taken, field, check, rowsRead, rowsJudge, rowsFields, rows, pair, via, zeros}
+use Rattle.format.specs.Format.{ok, Format, unless, tested, taken, field, check, rowsRead, rowsJudge, rowsFields, rowsKept, rows, pair, via, zeros}
 use Rattle.format.specs.File.{Fit}
 use Rattle.format.proofs.Fault.{unless-none, none-unless, unless-some, first-none, none-first, first-some}
 use Rattle.format.proofs.Fault.{then-ok, ok-then, tested-ok, ok-tested, taken-value, taken-ok, BadAt, bad-then, ok-bad, bad-tested}
+use Rattle.format.proofs.Kept.{unlessFault-none, unlessFault-parts}
 use Rattle.format.proofs.Holds.{fit-left, fit-right, Holds, holds-left, holds-right, holds-app}
 
 -- the value has no fault, the bytes hold its fields, and the place after it is theirs
@@ -28,11 +29,13 @@ pub record Back {A : Type 0} (f : Format A) (a : A) (s : List ℕ) (pos q : ℕ)
   pub holds : Holds s pos (f .fields a)
   pub place : q ≡ pos + widths (f .fields a)
 
--- what holds its fields reads as the value; what was read is what they hold; where it has a fault, reading its fields gives the fault's number
+-- what holds its fields reads as the value; what was read is what they hold; where it has a fault, reading its fields gives the fault's number,
+-- and where it has none, all its fields stand before the first fault
 pub record Lawful {A : Type 0} (f : Format A) : Type 0 where
   pub there : (a : A) (s : List ℕ) (pos : ℕ) → f .judge a ≡ none → Holds s pos (f .fields a) → f .read s pos ≡ ok a (pos + widths (f .fields a))
   pub back : (a : A) (s : List ℕ) (pos q : ℕ) → pos ≤ 8 * length s → f .read s pos ≡ ok a q → Back f a s pos q
   pub refuse : (a : A) (n : ℕ) (s : List ℕ) (pos : ℕ) → f .judge a ≡ some n → 0 < n → Fit (f .fields a) → Holds s pos (f .fields a) → BadAt (f .read s pos) n
+  pub all-kept : (a : A) → f .judge a ≡ none → f .kept a ≡ f .fields a
 
 pub lawful-field : (w : ℕ) (t : ℕ → Bool) (n : ℕ) → Lawful (field w t n)
 unfolding field widths
@@ -62,6 +65,7 @@ lawful-field w t n =
           (⊎-elim (λ q. absurd (omega (arith, h .0, ltb-false x (2 ^ w) (unless-some (ltb x (2 ^ w)) n m q .0))))
           (λ q. let u = unless-some (t x) n m (q .1) in bad-tested (t x) n m x (pos + w) (u .0) (u .1))
           (first-some (unless (ltb x (2 ^ w)) n) (unless (t x) n) m j));
+      all-kept = λ x j. unlessFault-none _ _ j;
     }
 
 module _ {A : Type 0} (f : Format A) (law : Lawful f) where
@@ -86,6 +90,7 @@ module _ {A : Type 0} (f : Format A) (law : Lawful f) where
             (λ q. let u = unless-some (t a) n m (q .1) in
             ok-bad (f .read s pos) _ a (pos + widths (f .fields a)) m (law .there a s pos (q .0) k) (bad-tested (t a) n m a _ (u .0) (u .1)))
             (first-some (f .judge a) (unless (t a) n) m j);
+        all-kept = λ a j. law .all-kept a (first-none (f .judge a) (unless (t a) n) j .0);
       }
 
 module _ {A B : Type 0} (f : Format A) (g : A → Format B) (law : Lawful f) (laws : (a : A) → Lawful (g a)) where
@@ -124,6 +129,11 @@ module _ {A B : Type 0} (f : Format A) (g : A → Format B) (law : Lawful f) (la
             (λ q. ok-bad (f .read s pos) _ a (pos + widths m) n (law .there a s pos (q .0) (holds-left s pos m r k))
             (bad-then (g a .read s (pos + widths m)) _ n (laws a .refuse b n s (pos + widths m) (q .1) z (fit-right m r h) (holds-right s pos m r k))))
             (first-some (f .judge a) (g a .judge b) n j);
+        all-kept = λ c j.
+            let a = c .0 in
+            let b = c .1 in
+            let (j₀, j₁) = first-none (f .judge a) (g a .judge b) j in
+            unlessFault-parts (f .judge a) j₀ (law .all-kept a j₀) (laws a .all-kept b j₁);
       }
 
 module _ {A B : Type 0} (to : B → A) (from : A → B) (f : Format A) (law : Lawful f) where
@@ -142,6 +152,7 @@ module _ {A B : Type 0} (to : B → A) (from : A → B) (f : Format A) (law : La
             let k′ : Back f (to b) s pos q = subst (λ (x : A). Back f x s pos q) (sym ea) (subst (λ (x : ℕ). Back f a s pos x) ep k) in
             record { judged = k′ .judged; holds = k′ .holds; place = k′ .place };
         refuse = λ b n s pos j z h k. bad-then (f .read s pos) _ n (law .refuse (to b) n s pos j z h k);
+        all-kept = λ b j. law .all-kept (to b) j;
       }
 
 module _ {A : Type 0} (f : List A → Format A) (laws : (l : List A) → Lawful (f l)) where
@@ -200,6 +211,15 @@ module _ {A : Type 0} (f : List A → Format A) (laws : (l : List A) → Lawful 
       (rows-refuse m (l ++ a ∷ []) r n s (pos + widths d) (q .1) z (fit-right d e h) (holds-right s pos d e k)))
       (first-some (f l .judge a) (rowsJudge f (l ++ a ∷ []) m r) n j)
 
+  rows-all-kept : (n : ℕ) (l m : List A) → rowsJudge f l n m ≡ none → rowsKept f l m ≡ rowsFields f l m
+  unfolding rowsJudge rowsFields rowsKept
+  rows-all-kept zero l [] j = refl
+  rows-all-kept zero l (a ∷ m) j = absurd (let z : _≡_ {A = ℕ} 0 1 = cc in omega arith)
+  rows-all-kept (suc n) l [] j = refl
+  rows-all-kept (suc n) l (a ∷ m) j =
+      let (j₀, j₁) = first-none (f l .judge a) (rowsJudge f (l ++ a ∷ []) n m) j in
+      unlessFault-parts (f l .judge a) j₀ (laws l .all-kept a j₀) (rows-all-kept n (l ++ a ∷ []) m j₁)
+
   pub lawful-rows : (n : ℕ) → Lawful (rows n f)
   unfolding rows
   lawful-rows n =
@@ -209,6 +229,7 @@ module _ {A : Type 0} (f : List A → Format A) (laws : (l : List A) → Lawful 
             let t = rows-back n [] s pos c q hp e in
             subst (λ (x : List A). Back (rows n f) x s pos q) (t .whole) record { judged = t .judged; holds = t .holds; place = t .place };
         refuse = λ a m s pos j z h k. rows-refuse n [] a m s pos j z h k;
+        all-kept = λ m j. rows-all-kept n [] m j;
       }
 
 -- parts of what a judgement says

@@ -1,4 +1,5 @@
 pub mod Fault  -- faults, and results one after another
+pub mod Kept  -- the fields before the first fault
 pub mod Reader  -- what a reader finds
 pub mod Chain  -- functions that read step by step
 pub mod Store  -- functions that judge and store step by step

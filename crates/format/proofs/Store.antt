@@ -14,11 +14,13 @@ use Rattle.bits.specs.Packed.{widths, packed, puts}
 use Rattle.bits.proofs.Packed.{widths-app}
 use Rattle.bits.proofs.Filled.{puts-packed}
 use Rattle.bits.proofs.Stored.{length-puts, puts-app}
-use Rattle.format.specs.Format.{Format, unless, first, field, check, rowsJudge, rowsFields, rows, pair, via, zeros}
+use Rattle.format.specs.Format.{Format, unless, first, unlessFault, field, check, rowsJudge, rowsKept, rows, pair, via, zeros}
 use Rattle.format.specs.File.{bytes, refused, bytesOr, writeFile}
-use Rattle.format.specs.Steps.{judged, faultOf, Stores}
+use Rattle.format.specs.Steps.{judged, faultOf, keptFrom, Stores}
 use Rattle.format.specs.declared.Cursor.{Cursor}
-use Rattle.format.proofs.Fault.{first-none, first-left, first-right, first-assoc, fault-none, fault-some, fault-stays, none-fault, judged-same, fault-judged}
+use Rattle.format.proofs.Fault.{first-none, first-left, first-right, first-assoc, fault-none, fault-some, fault-stays, none-fault, judged-pos, fault-judged}
+use Rattle.format.proofs.Kept.{unlessFault-empty, kept-start, kept-stays, kept-then, rows-kept-more}
+use Rattle.format.proofs.Law.{Lawful}
 
 module _ {A : Type 0} {f : Format A} {a : A} {o o′ : List ℕ} {c₀ c₁ : Cursor} where
   -- no number at the end: none at the start, and no fault
@@ -28,29 +30,36 @@ module _ {A : Type 0} {f : Format A} {a : A} {o o′ : List ℕ} {c₀ c₁ : Cu
   pub stores-start : Stores f a o o′ c₀ c₁ → c₁ .number ≡ 0 → c₀ .number ≡ 0
   stores-start h z = none-fault (c₀ .number) (no-fault h z .0)
 
-  pub stores-length : Stores f a o o′ c₀ c₁ → c₁ .number ≡ 0 → length o′ ≡ length o
-  stores-length h z = ap length (h .stored z) ∙ length-puts o (c₀ .pos) (f .fields a)
+  pub stores-length : Stores f a o o′ c₀ c₁ → length o′ ≡ length o
+  stores-length h = ap length (h .stored) ∙ length-puts o (c₀ .pos) (keptFrom c₀ f a)
 
 module _ {A : Type 0} (f : Format A) (a : A) (o : List ℕ) (c : Cursor) where
-  -- a number given before stays
+  -- a number given before stays, and so do the place and the bytes
   pub stores-skip : 0 < c .number → Stores f a o o c c
-  stores-skip h = record { fault = sym (fault-stays (c .number) (f .judge a) h); place = λ z. absurd (omega arith); stored = λ z. absurd (omega arith) }
+  unfolding widths puts
+  stores-skip h =
+      let e : keptFrom c f a ≡ [] = kept-stays f a c h in
+      record {
+        fault = sym (fault-stays (c .number) (f .judge a) h);
+        place = omega (arith, ap widths e);
+        stored = sym (ap (puts o (c .pos)) e);
+      }
 
 module _ {A B C : Type 0} (f : Format A) (g : Format B) (h : Format C) {a : A} {b : B} {d : C} {o₀ o₁ o₂ : List ℕ} {c₀ c₁ c₂ : Cursor} where
   -- one step, then another
-  pub stores-then : Stores f a o₀ o₁ c₀ c₁ → Stores g b o₁ o₂ c₁ c₂ → h .judge d ≡ first (f .judge a) (g .judge b) → h .fields d ≡ f .fields a ++ g .fields b
+  pub stores-then : Stores f a o₀ o₁ c₀ c₁ → Stores g b o₁ o₂ c₁ c₂ → h .judge d ≡ first (f .judge a) (g .judge b) → h .kept d ≡ f .kept a ++ unlessFault (f .judge a) (g .kept b)
       → Stores h d o₀ o₂ c₀ c₂
-  stores-then x y j e =
-      let fs = f .fields a in
-      let gs = g .fields b in
+  stores-then x y j k =
+      let fs = keptFrom c₀ f a in
+      let gs = keptFrom c₁ g b in
+      let e : keptFrom c₀ h d ≡ fs ++ gs = kept-then f g h a b d c₀ c₁ (x .fault) k in
       record {
         fault = y .fault ∙ ap (λ (m : Option ℕ). first m (g .judge b)) (x .fault) ∙ first-assoc _ _ _ ∙ ap (first (faultOf (c₀ .number))) (sym j);
-        place = λ z. omega (arith, y .place z, x .place (stores-start y z), widths-app fs gs, ap widths e);
-        stored = λ z.
-            let p : c₁ .pos ≡ c₀ .pos + widths fs = x .place (stores-start y z) in
-            y .stored z
-            ∙ ap (λ (l : List ℕ). puts l (c₁ .pos) gs) (x .stored (stores-start y z))
-            ∙ ap (λ (q : ℕ). puts (puts o₀ (c₀ .pos) fs) q gs) p
+        place = omega (arith, y .place, x .place, widths-app fs gs, ap widths e);
+        stored =
+            y .stored
+            ∙ ap (λ (l : List ℕ). puts l (c₁ .pos) gs) (x .stored)
+            ∙ ap (λ (q : ℕ). puts (puts o₀ (c₀ .pos) fs) q gs) (x .place)
             ∙ sym (puts-app o₀ (c₀ .pos) fs gs)
             ∙ ap (puts o₀ (c₀ .pos)) (sym e);
       }
@@ -62,17 +71,19 @@ module _ {A B : Type 0} where
   stores-pair f g {a} x y = stores-then f (g a) (pair f g) x y refl refl
 
   pub stores-via : (to : B → A) (back : A → B) (f : Format A) (b : B) {o o′ : List ℕ} {c₀ c₁ : Cursor} → Stores f (to b) o o′ c₀ c₁ → Stores (via to back f) b o o′ c₀ c₁
-  unfolding via
+  unfolding via keptFrom
   stores-via to back f b x = record { fault = x .fault; place = x .place; stored = x .stored }
 
 pub stores-field : (w : ℕ) (t : ℕ → Bool) (n x : ℕ) {b : Bool} {o o′ : List ℕ} {c₀ c₁ : Cursor} → b ≡ t x → Stores (field w (λ _. b) n) x o o′ c₀ c₁
     → Stores (field w t n) x o o′ c₀ c₁
-unfolding field
-stores-field w t n x {c₀ = c₀} e h =
+unfolding field keptFrom
+stores-field w t n x {o = o} {c₀ = c₀} e h =
+    let j : Bool → Option ℕ = λ b. first (unless (ltb x (2 ^ w)) n) (unless b n) in
+    let k : Bool → List (ℕ × ℕ) = λ b. unlessFault (faultOf (c₀ .number)) (unlessFault (j b) ((w, x) ∷ [])) in
     record {
-      fault = h .fault ∙ ap (λ (b : Bool). first (faultOf (c₀ .number)) (first (unless (ltb x (2 ^ w)) n) (unless b n))) e;
-      place = h .place;
-      stored = h .stored;
+      fault = h .fault ∙ ap (λ (b : Bool). first (faultOf (c₀ .number)) (j b)) e;
+      place = h .place ∙ ap (λ (b : Bool). c₀ .pos + widths (k b)) e;
+      stored = h .stored ∙ ap (λ (b : Bool). puts o (c₀ .pos) (k b)) e;
     }
 
 module _ {A : Type 0} (f : Format A) where
@@ -84,18 +95,16 @@ module _ {A : Type 0} (f : Format A) where
 module _ {A : Type 0} (f : Format A) where
   pub stores-check : (t : A → Bool) (n : ℕ) {a : A} {b : Bool} {o o′ : List ℕ} {c₀ c₁ : Cursor} → Stores f a o o′ c₀ c₁ → b ≡ t a → 0 < n
       → Stores (check f t n) a o o′ c₀ (judged c₁ b n)
-  unfolding check
+  unfolding check keptFrom
   stores-check t n {a} {b} {o} {o′} {c₀} {c₁} h e k =
-      let same : judged c₁ b n .number ≡ 0 → judged c₁ b n ≡ c₁ = λ z. judged-same c₁ b n k z in
-      let none′ : judged c₁ b n .number ≡ 0 → c₁ .number ≡ 0 = λ z. ap (λ (c : Cursor). c .number) (sym (same z)) ∙ z in
       record {
         fault =
             fault-judged c₁ b n k
             ∙ ap (λ (m : Option ℕ). first m (unless b n)) (h .fault)
             ∙ first-assoc _ _ _
             ∙ ap (λ (x : Bool). first (faultOf (c₀ .number)) (first (f .judge a) (unless x n))) e;
-        place = λ z. ap (λ (c : Cursor). c .pos) (same z) ∙ h .place (none′ z);
-        stored = λ z. h .stored (none′ z);
+        place = judged-pos c₁ b n ∙ h .place;
+        stored = h .stored;
       }
 
 module _ {A : Type 0} (f : List A → Format A) where
@@ -109,17 +118,11 @@ module _ {A : Type 0} (f : List A → Format A) where
       (rows-judge-more (m ++ b ∷ []) n l a (omega arith) ∙ ap (λ (x : List A). first (rowsJudge f (m ++ b ∷ []) n l) (f x .judge a)) (append-assoc m (b ∷ []) l))
       ∙ sym (first-assoc (f m .judge b) _ _)
 
-  rows-fields-more : (m l : List A) (a : A) → rowsFields f m (l ++ a ∷ []) ≡ rowsFields f m l ++ f (m ++ l) .fields a
-  unfolding rowsFields
-  rows-fields-more m [] a = append-nil (f m .fields a) ∙ ap (λ (x : List A). f x .fields a) (sym (append-nil m))
-  rows-fields-more m (b ∷ l) a =
-      ap (λ (x : List (ℕ × ℕ)). f m .fields b ++ x)
-      (rows-fields-more (m ++ b ∷ []) l a ∙ ap (λ (x : List A). rowsFields f (m ++ b ∷ []) l ++ f x .fields a) (append-assoc m (b ∷ []) l))
-      ∙ sym (append-assoc (f m .fields b) (rowsFields f (m ++ b ∷ []) l) (f (m ++ b ∷ l) .fields a))
-
   pub stores-rows-begin : {o : List ℕ} {c : Cursor} → Stores (rows 0 f) [] o o c c
-  unfolding rows rowsJudge rowsFields widths puts
-  stores-rows-begin = record { fault = sym (first-right _); place = λ z. omega arith; stored = λ z. refl }
+  unfolding rows rowsJudge rowsKept keptFrom widths puts
+  stores-rows-begin {o} {c} =
+      let e : keptFrom c (rows 0 f) [] ≡ [] = unlessFault-empty (faultOf (c .number)) in
+      record { fault = sym (first-right _); place = omega (arith, ap widths e); stored = sym (ap (puts o (c .pos)) e) }
 
   pub stores-rows-turn : (i : ℕ) {l : List A} {a : A} {o₀ o₁ o₂ : List ℕ} {c₀ c₁ c₂ : Cursor} → length l ≡ i → Stores (rows i f) l o₀ o₁ c₀ c₁ → Stores (f l) a o₁ o₂ c₁ c₂
       → Stores (rows (i + 1) f) (l ++ a ∷ []) o₀ o₂ c₀ c₂
@@ -127,7 +130,7 @@ module _ {A : Type 0} (f : List A → Format A) where
   stores-rows-turn i {l} {a} e x y =
       stores-then (rows i f) (f l) (rows (i + 1) f) x y
       (ap (λ (k : ℕ). rowsJudge f [] k (l ++ a ∷ [])) (add-one i) ∙ rows-judge-more [] i l a e)
-      (rows-fields-more [] l a)
+      (rows-kept-more f [] i l a e)
 
 module _ {A : Type 0} (f : Format A) {a : A} {o o′ : List ℕ} {c₀ c₁ : Cursor} where
   pub not-written : c₀ .number ≡ 0 → Stores f a o o′ c₀ c₁ → 0 < c₁ .number → writeFile f a ≡ refused (c₁ .number)
@@ -138,16 +141,19 @@ module _ {A : Type 0} (f : Format A) {a : A} {o o′ : List ℕ} {c₀ c₁ : Cu
       ap (λ (m : Option ℕ). bytesOr m (packed (f .fields a))) j
 
   pub written :
-      c₀ .number ≡ 0
+      Lawful f
+      → c₀ .number ≡ 0
       → c₀ .pos ≡ 0
       → Stores f a o o′ c₀ c₁
       → c₁ .number ≡ 0
       → (writeFile f a ≡ bytes (packed (f .fields a))) × (c₁ .pos ≡ widths (f .fields a))
       × (length (packed (f .fields a)) ≤ length o → o′ ≡ packed (f .fields a) ++ drop (length (packed (f .fields a))) o)
   unfolding writeFile bytesOr
-  written z p h e =
-      let fs = f .fields a in (
-        ap (λ (m : Option ℕ). bytesOr m (packed fs)) (no-fault h e .1),
-        omega (arith, h .place e),
-        λ l. h .stored e ∙ ap (λ (q : ℕ). puts o q fs) p ∙ puts-packed o fs l,
+  written law z p h e =
+      let fs = f .fields a in
+      let j : f .judge a ≡ none = no-fault h e .1 in
+      let k : keptFrom c₀ f a ≡ fs = kept-start f a c₀ z ∙ law .all-kept a j in (
+        ap (λ (m : Option ℕ). bytesOr m (packed fs)) j,
+        omega (arith, h .place, ap widths k),
+        λ l. h .stored ∙ ap (puts o (c₀ .pos)) k ∙ ap (λ (q : ℕ). puts o q fs) p ∙ puts-packed o fs l,
       )

@@ -14,11 +14,13 @@ pub data Res (A : Type 0) : Type 0 where
   bad : ℕ → ℕ → Res A
   ok : A → ℕ → Res A
 
--- reading from the bytes at a bit position; the first fault of a value, in reading order; its fields, each a width and a number
+-- reading from the bytes at a bit position; the first fault of a value, in reading order; its fields, each a width and a number; those of its
+-- fields that stand before its first fault
 pub record Format (A : Type 0) : Type 0 where
   pub read : List ℕ → ℕ → Res A
   pub judge : A → Option ℕ
   pub fields : A → List (ℕ × ℕ)
+  pub kept : A → List (ℕ × ℕ)
 
 -- the number n unless the test holds
 unfoldable pub unless : Bool → ℕ → Option ℕ
@@ -29,6 +31,11 @@ unless false n = some n
 unfoldable pub first : Option ℕ → Option ℕ → Option ℕ
 first none g = g
 first (some n) g = some n
+
+-- the fields, or none of them after a fault
+unfoldable pub unlessFault : Option ℕ → List (ℕ × ℕ) → List (ℕ × ℕ)
+unlessFault none fs = fs
+unlessFault (some n) fs = []
 
 -- what was read, or the number n where a test on it fails
 unfoldable pub tested : {A : Type 0} → Bool → ℕ → A → ℕ → Res A
@@ -55,6 +62,7 @@ field w t n =
       read = λ s pos. andThen (taken s pos w) (λ x q. tested (t x) n x q);
       judge = λ x. first (unless (ltb x (2 ^ w)) n) (unless (t x) n);
       fields = λ x. (w, x) ∷ [];
+      kept = λ x. unlessFault (first (unless (ltb x (2 ^ w)) n) (unless (t x) n)) ((w, x) ∷ []);
     }
 
 module _ {A : Type 0} where
@@ -65,6 +73,7 @@ module _ {A : Type 0} where
         read = λ s pos. andThen (f .read s pos) (λ a q. tested (t a) n a q);
         judge = λ a. first (f .judge a) (unless (t a) n);
         fields = λ a. f .fields a;
+        kept = λ a. f .kept a;
       }
 
   -- n more after those in l; each may depend on those before it
@@ -84,9 +93,20 @@ module _ {A : Type 0} where
   rowsFields f l [] = []
   rowsFields f l (a ∷ m) = f l .fields a ++ rowsFields f (l ++ a ∷ []) m
 
+  -- the fields of the rows after those in l, up to the first fault of a row
+  unfoldable pub rowsKept : (List A → Format A) → List A → List A → List (ℕ × ℕ)
+  rowsKept f l [] = []
+  rowsKept f l (a ∷ m) = f l .kept a ++ unlessFault (f l .judge a) (rowsKept f (l ++ a ∷ []) m)
+
   -- n of a kind, one after another
   unfoldable pub rows : ℕ → (List A → Format A) → Format (List A)
-  rows n f = record { read = λ s pos. rowsRead f s [] n pos; judge = λ l. rowsJudge f [] n l; fields = λ l. rowsFields f [] l }
+  rows n f =
+      record {
+        read = λ s pos. rowsRead f s [] n pos;
+        judge = λ l. rowsJudge f [] n l;
+        fields = λ l. rowsFields f [] l;
+        kept = λ l. rowsKept f [] l;
+      }
 
 module _ {A B : Type 0} where
   -- one, then another that may depend on it
@@ -96,6 +116,7 @@ module _ {A B : Type 0} where
         read = λ s pos. andThen (f .read s pos) (λ a q. andThen (g a .read s q) (λ b r. ok (a, b) r));
         judge = λ p. first (f .judge (p .0)) (g (p .0) .judge (p .1));
         fields = λ p. f .fields (p .0) ++ g (p .0) .fields (p .1);
+        kept = λ p. f .kept (p .0) ++ unlessFault (f .judge (p .0)) (g (p .0) .kept (p .1));
       }
 
   -- the same under another name
@@ -105,6 +126,7 @@ module _ {A B : Type 0} where
         read = λ s pos. andThen (f .read s pos) (λ a q. ok (from a) q);
         judge = λ b. f .judge (to b);
         fields = λ b. f .fields (to b);
+        kept = λ b. f .kept (to b);
       }
 
 -- one, then w zero bits, refused with n if one is set

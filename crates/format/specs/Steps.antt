@@ -8,7 +8,7 @@ use mathlib.Core.Option.{Option, none, some}
 use Prim.Native.Nat.{ℕ, _+_, _-_, _^_, _≤_, _<_}
 use lib.Dec.{eqb}
 use Rattle.bits.specs.Packed.{widths, puts}
-use Rattle.format.specs.Format.{Res, ok, bad, Format, first}
+use Rattle.format.specs.Format.{Res, ok, bad, Format, first, unlessFault}
 use Rattle.format.specs.declared.Cursor.{Cursor}
 
 -- what k gives at the place reached, unless a number was given before
@@ -33,8 +33,13 @@ pub record Near (at next : Cursor) (value w end : ℕ) : Type 0 where
   pub fits : value < 2 ^ w
   pub below : value ≤ end - 1
 
--- a value was judged as f says, from the first cursor to the second, and if no number came of it, its fields were stored in the bytes o, now o′
+-- the fields of a value that are stored from a cursor on: those before its first fault, and none once a number was given
+unfoldable pub keptFrom : {A : Type 0} → Cursor → Format A → A → List (ℕ × ℕ)
+keptFrom c f a = unlessFault (faultOf (c .number)) (f .kept a)
+
+-- a value was judged as f says, from the first cursor to the second; its fields before its first fault, and no others, were stored in the
+-- bytes o, now o′, and the place is the one after them
 pub record Stores {A : Type 0} (f : Format A) (a : A) (o o′ : List ℕ) (at next : Cursor) : Type 0 where
   pub fault : faultOf (next .number) ≡ first (faultOf (at .number)) (f .judge a)
-  pub place : next .number ≡ 0 → next .pos ≡ at .pos + widths (f .fields a)
-  pub stored : next .number ≡ 0 → o′ ≡ puts o (at .pos) (f .fields a)
+  pub place : next .pos ≡ at .pos + widths (keptFrom at f a)
+  pub stored : o′ ≡ puts o (at .pos) (keptFrom at f a)

@@ -1,16 +1,18 @@
 -- `format::put_field` meets its contract: the two tests, one after the other, are what the format says of a number, and only one without a fault is stored.
 use mathlib.Core.Path.{_≡_, sym, ap, _∙_}
 use mathlib.Core.Bool.{Bool}
+use mathlib.Core.List.{List, [], _∷_}
 use mathlib.Core.Option.{Option}
 use Prim.Native.Nat.{ℕ}
 use native.Mathlib.Omega.{arith}
 use borrow.Author.Needs.{needs}
-use Rattle.bits.specs.Packed.{widths}
+use Rattle.bits.specs.Packed.{widths, puts}
 use Rattle.bits.proofs.Stored.{puts-one}
-use Rattle.format.specs.Format.{unless, first, field}
-use Rattle.format.specs.Steps.{faultOf}
+use Rattle.format.specs.Format.{unless, first, unlessFault, field}
+use Rattle.format.specs.Steps.{faultOf, keptFrom}
 use Rattle.format.specs.declared.Cursor.{Cursor}
-use Rattle.format.proofs.Fault.{first-assoc, fault-judged, judged-pos}
+use Rattle.format.proofs.Fault.{first-assoc, fault-none, fault-some, fault-judged, judged-pos}
+use Rattle.format.proofs.Kept.{unlessFault-none, unlessFault-first}
 use Rattle.format.proofs.put_field.Statement.{statement}
 use Rattle.format.proofs.put_field.Tie as tie
 
@@ -33,6 +35,16 @@ module _ (c : tie.After-judged2) where
   stays : c .judged2 .result .pos ≡ c .before .before .before .before .args .at .pos
   stays = ap (λ (x : Cursor). x .pos) (c .judged2 .ensures) ∙ judged-pos _ _ _ ∙ ap (λ (x : Cursor). x .pos) (c .before .judged .ensures) ∙ judged-pos _ _ _
 
+  -- what is stored of the field, by the number that the two tests gave
+  kept : let a = c .before .before .before .before .args in
+      keptFrom (a .at) (field (a .w) (λ _. a .holds) (a .n)) (a .x) ≡ unlessFault (faultOf (c .judged2 .result .number)) ((a .w, a .x) ∷ [])
+  unfolding field keptFrom
+  kept =
+      let a = c .before .before .before .before .args in
+      let one : List (ℕ × ℕ) = (a .w, a .x) ∷ [] in
+      sym (unlessFault-first (faultOf (a .at .number)) (field (a .w) (λ _. a .holds) (a .n) .judge (a .x)) one)
+      ∙ ap (λ (o : Option ℕ). unlessFault o one) (sym checked)
+
 fits-requires : tie.Need-fits-requires
 fits-requires c κs = search needs
 
@@ -43,9 +55,15 @@ judged-requires-2 : tie.Need-judged-requires-2
 judged-requires-2 c κs = search needs
 
 returns : tie.Need-returns
+unfolding widths puts unlessFault
 returns c =
     let k = c .before .before in
-    (record { fault = checked k; place = λ z. absurd (omega arith); stored = λ z. absurd (omega arith) }, omega (arith, stays k))
+    let a = k .before .before .before .before .args in
+    let e : keptFrom (a .at) (field (a .w) (λ _. a .holds) (a .n)) (a .x) ≡ [] =
+    kept k ∙ ap (λ (o : Option ℕ). unlessFault o ((a .w, a .x) ∷ [])) (fault-some (k .judged2 .result .number) (omega arith)) in (
+      record { fault = checked k; place = omega (arith, stays k, ap widths e); stored = sym (ap (puts (a .out .now) (a .at .pos)) e) },
+      omega (arith, stays k),
+    )
 
 put-requires : tie.Need-put-requires
 put-requires c κs = search needs
@@ -57,14 +75,16 @@ same-length : tie.Need-same-length
 same-length c = search needs
 
 returns-2 : tie.Need-returns-2
-unfolding field widths
+unfolding widths
 returns-2 c =
     let k = c .before .before .before .before .before .before in
-    let a = k .before .before .before .before .args in (
+    let a = k .before .before .before .before .args in
+    let z = c .before .before .before .before .if1 .left in
+    let e : keptFrom (a .at) (field (a .w) (λ _. a .holds) (a .n)) (a .x) ≡ (a .w, a .x) ∷ [] = kept k ∙ unlessFault-none _ _ (fault-none (k .judged2 .result .number) z) in (
       record {
-        fault = ap faultOf (sym (c .before .before .before .before .if1 .left)) ∙ checked k;
-        place = λ z. omega arith;
-        stored = λ z. c .before .before .put .ensures ∙ sym (puts-one (a .out .now) (a .at .pos) (a .w) (a .x));
+        fault = ap faultOf (sym z) ∙ checked k;
+        place = omega (arith, ap widths e);
+        stored = c .before .before .put .ensures ∙ sym (puts-one (a .out .now) (a .at .pos) (a .w) (a .x)) ∙ ap (puts (a .out .now) (a .at .pos)) (sym e);
       },
       omega arith,
     )

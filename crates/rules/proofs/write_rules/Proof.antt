@@ -11,6 +11,7 @@ use Rattle.format.specs.Steps.{Stores}
 use Rattle.format.proofs.Store.{written, not-written, stores-length}
 use Rattle.policy.specs.File.{policyFormat}
 use Rattle.policy.specs.Rules.{policyOf}
+use Rattle.policy.proofs.PolicyLaw.{lawful-policy}
 use Rattle.rules.proofs.Laws.{writing-is, none-before, refused-written, refused-filled, short-written, short-filled, long-written, long-filled, passes-agree}
 use borrow.Author.Needs.{needs}
 use Rattle.rules.proofs.write_rules.Statement.{statement}
@@ -51,11 +52,11 @@ returns-2 c =
     let k = c .before .before .before .before .before .before in
     let a = k .before .before .before .args in
     let h = k .put-policy .ensures .0 in
-    let (e, d, f) = written policyFormat refl refl h (c .before .before .if1 .left) in
+    let (e, d, f) = written policyFormat lawful-policy refl refl h (c .before .before .if1 .left) in
     let b = writing-is (policyOf (a .rules)) ∙ e in
     let s : length (a .out .now) < length (packed (policyFormat .fields (policyOf (a .rules)))) = omega (arith, packed-length (policyFormat .fields (policyOf (a .rules)))) in (
       short-written _ _ b (length (a .out .now)) s,
-      none-before (k .put-policy .last .0) (a .out .now) (stores-length h (c .before .before .if1 .left)) ∙ short-filled _ _ b (a .out .now) s,
+      none-before (k .put-policy .last .0) (a .out .now) (stores-length h) ∙ short-filled _ _ b (a .out .now) s,
     )
 
 put-policy-requires-2 : tie.Need-put-policy-requires-2
@@ -73,13 +74,13 @@ returns-3 c =
     let l = packed (policyFormat .fields p) in
     let h = k .put-policy .ensures .0 in
     let z = c .before .before .before .before .before .before .if1 .left in
-    let (e, d, f) = written policyFormat refl refl h z in
+    let (e, d, f) = written policyFormat lawful-policy refl refl h z in
     let b = writing-is p ∙ e in
-    let same : k .put-policy .last .0 ++ a .out .now ≡ a .out .now = none-before (k .put-policy .last .0) (a .out .now) (stores-length h z) in
+    let same : k .put-policy .last .0 ++ a .out .now ≡ a .out .now = none-before (k .put-policy .last .0) (a .out .now) (stores-length h) in
     let g = subst (λ (o : List ℕ). Stores policyFormat p o (j .put-policy2 .last .0) record { number = 0; pos = 0 } (j .put-policy2 .result)) same (j .put-policy2 .ensures .0) in
     let s : length l ≤ length (a .out .now) = omega (arith, packed-length (policyFormat .fields p), ap length same) in (
       long-written _ l b _ (length (a .out .now)) (omega (arith, packed-length (policyFormat .fields p))) s,
-      written policyFormat refl refl g (passes-agree p h g z) .2 s ∙ long-filled _ l b (a .out .now) s,
+      written policyFormat lawful-policy refl refl g (passes-agree p h g z) .2 s ∙ long-filled _ l b (a .out .now) s,
     )
 
 pub write-rules-spec : {M : Type 1} → statement M

@@ -66,7 +66,9 @@ module _ {A : Type 0} (f : List A → Format A) where
       → rowsKept f m (l ++ a ∷ []) ≡ rowsKept f m l ++ unlessFault (rowsJudge f m n l) (f (m ++ l) .kept a)
   unfolding rowsJudge rowsKept unlessFault
   rows-kept-more m zero [] a e =
-      ap (λ (x : List (ℕ × ℕ)). f m .kept a ++ x) (unlessFault-empty (f m .judge a)) ∙ append-nil (f m .kept a) ∙ ap (λ (x : List A). f x .kept a) (sym (append-nil m))
+      ap (λ (x : List (ℕ × ℕ)). f m .kept a ++ x) (unlessFault-empty (f m .judge a))
+      ∙ append-nil (f m .kept a)
+      ∙ ap (λ (x : List A). f x .kept a) (sym (append-nil m))
   rows-kept-more m zero (b ∷ l) a e = absurd (omega arith)
   rows-kept-more m (suc n) [] a e = absurd (omega arith)
   rows-kept-more m (suc n) (b ∷ l) a e =

@@ -18,7 +18,7 @@ use Rattle.format.specs.Format.{Format, unless, first, unlessFault, fiel
 use Rattle.format.specs.File.{bytes, refused, bytesOr, writeFile}
 use Rattle.format.specs.Steps.{judged, faultOf, keptFrom, Stores}
 use Rattle.format.specs.declared.Cursor.{Cursor}
-use Rattle.format.proofs.Fault.{first-none, first-left, first-right, first-assoc, fault-none, fault-some, fault-stays, none-fault, judged-pos, fault-judged}
+use Rattle.format.proofs.Fault.{first-none, first-left, first-right, first-assoc, fault-none, fault-some, fault-stays, judged-pos, fault-judged}
 use Rattle.format.proofs.Kept.{unlessFault-empty, kept-start, kept-stays, kept-then, rows-kept-more}
 use Rattle.format.proofs.Law.{Lawful}
 
@@ -26,9 +26,6 @@ module _ {A : Type 0} {f : Format A} {a : A} {o o′ : List ℕ} {c₀ c₁ : Cu
   -- no number at the end: none at the start, and no fault
   no-fault : Stores f a o o′ c₀ c₁ → c₁ .number ≡ 0 → (faultOf (c₀ .number) ≡ none) × (f .judge a ≡ none)
   no-fault h z = first-none (faultOf (c₀ .number)) (f .judge a) (sym (h .fault) ∙ fault-none (c₁ .number) z)
-
-  pub stores-start : Stores f a o o′ c₀ c₁ → c₁ .number ≡ 0 → c₀ .number ≡ 0
-  stores-start h z = none-fault (c₀ .number) (no-fault h z .0)
 
   pub stores-length : Stores f a o o′ c₀ c₁ → length o′ ≡ length o
   stores-length h = ap length (h .stored) ∙ length-puts o (c₀ .pos) (keptFrom c₀ f a)
@@ -47,7 +44,8 @@ module _ {A : Type 0} (f : Format A) (a : A) (o : List ℕ) (c : Cursor) where
 
 module _ {A B C : Type 0} (f : Format A) (g : Format B) (h : Format C) {a : A} {b : B} {d : C} {o₀ o₁ o₂ : List ℕ} {c₀ c₁ c₂ : Cursor} where
   -- one step, then another
-  pub stores-then : Stores f a o₀ o₁ c₀ c₁ → Stores g b o₁ o₂ c₁ c₂ → h .judge d ≡ first (f .judge a) (g .judge b) → h .kept d ≡ f .kept a ++ unlessFault (f .judge a) (g .kept b)
+  pub stores-then : Stores f a o₀ o₁ c₀ c₁ → Stores g b o₁ o₂ c₁ c₂ → h .judge d ≡ first (f .judge a) (g .judge b)
+      → h .kept d ≡ f .kept a ++ unlessFault (f .judge a) (g .kept b)
       → Stores h d o₀ o₂ c₀ c₂
   stores-then x y j k =
       let fs = keptFrom c₀ f a in

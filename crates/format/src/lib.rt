@@ -92,7 +92,8 @@ fn fits(x: u64, w: u8) -> bool
     if w < 64 { x >> w == 0 } else { true }
 }
 
-// A field of w bits is judged, by whether its test holds, and stored.
+// A field of w bits is judged, by whether its test holds, and stored. Where it is refused, or a number was given before, nothing is stored
+// and the place stays.
 pub fn put_field(out: &mut [u8], at: Cursor, w: u8, x: u64, holds: bool, n: u8) -> Cursor
     requires { ⌜ (at .pos < 2 ^ 40) × (0 < n) ⌝ }
     ensures { λ r. ⌜ Stores (field w (λ _. holds) n) x (now (out .entry)) (now (out .exit)) at r ⌝ }

@@ -80,7 +80,8 @@ returns-2 c =
     let k = c .before .before .before .before .before .before in
     let a = k .before .before .before .before .args in
     let z = c .before .before .before .before .if1 .left in
-    let e : keptFrom (a .at) (field (a .w) (λ _. a .holds) (a .n)) (a .x) ≡ (a .w, a .x) ∷ [] = kept k ∙ unlessFault-none _ _ (fault-none (k .judged2 .result .number) z) in (
+    let e : keptFrom (a .at) (field (a .w) (λ _. a .holds) (a .n)) (a .x) ≡ (a .w, a .x) ∷ [] =
+    kept k ∙ unlessFault-none _ _ (fault-none (k .judged2 .result .number) z) in (
       record {
         fault = ap faultOf (sym z) ∙ checked k;
         place = omega (arith, ap widths e);

@@ -1,5 +1,5 @@
 -- Laws for functions that read a format step by step, a cursor going along. In order: what a cursor stands for, one step after another,
--- each way of building a format, rows, a whole file.
+-- each way of building a format, what the program gives for a number that was read, rows, a whole file.
 -- Not here: storing (Store).
 use mathlib.Core.Path.{_≡_, refl, sym, ap, _∙_}
 use mathlib.Core.Bool.{Bool, true, false, cond, _&&_}
@@ -12,9 +12,11 @@ use lib.Dec.{eqb, leb, ltb}
 use lib.ListN.{length}
 use Rattle.format.specs.Format.{Res, ok, bad, Format, tested, andThen, taken, field, check, rowsRead, rows, pair, via, zeros, within}
 use Rattle.format.specs.File.{ended, readFile}
-use Rattle.format.specs.Steps.{from, resOf, judged}
+use Rattle.format.specs.Steps.{from, resOf, takenOf, judged}
 use Rattle.format.specs.declared.Cursor.{Cursor}
+use Rattle.format.specs.declared.Taken.{Taken}
 use Rattle.format.proofs.Fault.{judged-holds, judged-fails, judged-before}
+use Rattle.format.proofs.Refuses.{taken-only, refuses-field}
 
 module _ {A : Type 0} where
   pub from-good : (c : Cursor) (k : ℕ → Res A) → c .number ≡ 0 → from c k ≡ k (c .pos)
@@ -99,6 +101,41 @@ chain-field w t n s c₀ c₁ x b e d z =
 pub field-same : (w : ℕ) (t u : ℕ → Bool) (n : ℕ) (s : List ℕ) (c : Cursor) → ((x : ℕ) → t x ≡ u x) → from c (field w t n .read s) ≡ from c (field w u n .read s)
 unfolding field
 field-same w t u n s c h = from-same c _ _ (then-same (taken s (c .pos) w) _ _ (λ x q. ap (λ (b : Bool). tested b n x q) (h x)))
+
+-- what stands for a result, with 0 beside a number, is what the program gives for it
+pub taken-is : (t : Taken) (r : Res ℕ) → resOf (t .at) (t .value) ≡ r → (0 < t .at .number → t .value ≡ 0) → t ≡ takenOf r
+unfolding takenOf
+taken-is t r e v = go (decLt 0 (t .at .number))
+  where
+    go : Dec (0 < t .at .number) → t ≡ takenOf r
+    go (yes h) = rw (sym e ∙ res-bad (t .at) (t .value) h) (ap (λ (x : ℕ). record { at = t .at; value = x }) (v h))
+    go (no h) =
+        let z : t .at .number ≡ 0 = omega arith in
+        rw (sym e ∙ res-good (t .at) (t .value) z) (ap (λ (n : ℕ). record { at = record { number = n; pos = t .at .pos }; value = t .value }) z)
+
+-- and it stands for that result, unless it is a refusal by 0
+res-taken : (t : Taken) (r : Res ℕ) → t ≡ takenOf r → ((n q : ℕ) → r ≡ bad n q → 0 < n) → resOf (t .at) (t .value) ≡ r
+unfolding takenOf
+res-taken t (ok x q) e h = rw e (res-good record { number = 0; pos = q } x refl)
+res-taken t (bad n q) e h = rw e (res-bad record { number = n; pos = q } 0 (h n q refl))
+
+-- a cursor adds no refusal by 0
+from-only : (c : Cursor) (k : ℕ → Res ℕ) → ((n q : ℕ) → k (c .pos) ≡ bad n q → 0 < n) → (n q : ℕ) → from c k ≡ bad n q → 0 < n
+from-only c k h n q e = go (decLt 0 (c .number))
+  where
+    go : Dec (0 < c .number) → 0 < n
+    go (yes z) = let d : bad (c .number) (c .pos) ≡ bad n q = sym (from-bad c k z) ∙ e in let m : c .number ≡ n = cc in omega arith
+    go (no z) = h n q (sym (from-good c k (omega arith)) ∙ e)
+
+-- what `take` gives stands for the next w bits
+pub res-bits : (s : List ℕ) (c : Cursor) (w : ℕ) (t : Taken) → t ≡ takenOf (from c (λ q. taken s q w)) → resOf (t .at) (t .value) ≡ from c (λ q. taken s q w)
+res-bits s c w t e = res-taken t _ e (from-only c (λ q. taken s q w) (λ n q d. taken-only (λ m. 0 < m) s (c .pos) w n q (omega arith) d))
+
+-- what `read_field` gives stands for the field
+pub res-field : (w : ℕ) (u : ℕ → Bool) (n : ℕ) (s : List ℕ) (c : Cursor) (t : Taken) → 0 < n → t ≡ takenOf (from c (field w u n .read s))
+    → resOf (t .at) (t .value) ≡ from c (field w u n .read s)
+res-field w u n s c t z e =
+    res-taken t _ e (from-only c (field w u n .read s) (λ m q d. refuses-field (λ k. 0 < k) w u n (omega arith) z .only s (c .pos) m q d))
 
 -- only 0 is from 0 up to, not including, 1
 pub within-zero : (x : ℕ) → within 0 1 x ≡ eqb 0 x

@@ -33,7 +33,7 @@ module _ (P : ℕ → Type 0) where
   test-only true m a p n q h e = not-bad a p n q e
   test-only false m a p n q h e = same-bad m p n q h e
 
-  taken-only : (s : List ℕ) (pos w n q : ℕ) → P 1 → taken s pos w ≡ bad n q → P n
+  pub taken-only : (s : List ℕ) (pos w n q : ℕ) → P 1 → taken s pos w ≡ bad n q → P n
   unfolding taken
   taken-only s pos w n q h = go (leb (pos + w) (8 * length s))
     where

@@ -10,6 +10,7 @@ use lib.Dec.{eqb}
 use Rattle.bits.specs.Packed.{widths, puts}
 use Rattle.format.specs.Format.{Res, ok, bad, Format, first, unlessFault}
 use Rattle.format.specs.declared.Cursor.{Cursor}
+use Rattle.format.specs.declared.Taken.{Taken}
 
 -- what k gives at the place reached, unless a number was given before
 unfoldable pub from : {A : Type 0} → Cursor → (ℕ → Res A) → Res A
@@ -18,6 +19,11 @@ from c k = cond (eqb (c .number) 0) (k (c .pos)) (bad (c .number) (c .pos))
 -- the result that a cursor and a value stand for
 unfoldable pub resOf : {A : Type 0} → Cursor → A → Res A
 resOf c a = from c (ok a)
+
+-- a number that was read, as the program gives it: 0 where a refusal was given
+unfoldable pub takenOf : Res ℕ → Taken
+takenOf (ok x q) = record { at = record { number = 0; pos = q }; value = x }
+takenOf (bad n q) = record { at = record { number = n; pos = q }; value = 0 }
 
 -- the cursor, with the number n unless the test holds or a number was given before
 unfoldable pub judged : Cursor → Bool → ℕ → Cursor

@@ -3,7 +3,7 @@ ghost use mathlib.Core.Path.{_≡_};
 ghost use Prim.Native.Nat.{_+_, _*_, _^_, _≤_, _<_};
 ghost use lib.Dec.{ltb};
 ghost use Rattle.format.specs.Format.{Format, taken, field, within as withinOf};
-ghost use Rattle.format.specs.Steps.{from, resOf, judged as judgedOf, Near, Stores};
+ghost use Rattle.format.specs.Steps.{from, takenOf, judged as judgedOf, Near, Stores};
 
 pub mod bit_reader;
 
@@ -16,16 +16,16 @@ pub struct Cursor {
     pub pos: usize,
 }
 
-// A number that was read, with the place after it; 0 where a refusal was given.
+// A number that was read, with the place after it.
 pub struct Taken {
     pub at: Cursor,
     pub value: u64,
 }
 
-// The next w bits.
+// The next w bits; 0 beside a refusal.
 pub fn take(s: &[u8], at: Cursor, w: usize) -> Taken
     requires { ⌜ (w ≤ 24) × (at .pos < 2 ^ 40) ⌝ }
-    ensures { λ r. ⌜ resOf (r .at) (r .value) ≡ from at (λ q. taken (now (s .entry)) q w) ⌝ }
+    ensures { λ r. ⌜ r ≡ takenOf (from at (λ q. taken (now (s .entry)) q w)) ⌝ }
     ensures { λ r. ⌜ Near at (r .at) (r .value) w (2 ^ w) ⌝ }
 {
     if at.number != 0 {
@@ -70,10 +70,10 @@ pub fn within(lo: u64, end: u64, x: u64) -> bool
     if lo <= x { x < end } else { false }
 }
 
-// A field of w bits from lo up to, not including, end; any other number is refused with n.
+// A field of w bits from lo up to, not including, end; any other number is refused with n. Beside a refusal the value is 0.
 pub fn read_field(s: &[u8], at: Cursor, w: usize, lo: u64, end: u64, n: u8) -> Taken
     requires { ⌜ (w ≤ 24) × (at .pos < 2 ^ 40) × (0 < n) ⌝ }
-    ensures { λ r. ⌜ resOf (r .at) (r .value) ≡ from at (field w (withinOf lo end) n .read (now (s .entry))) ⌝ }
+    ensures { λ r. ⌜ r ≡ takenOf (from at (field w (withinOf lo end) n .read (now (s .entry)))) ⌝ }
     ensures { λ r. ⌜ Near at (r .at) (r .value) w end ⌝ }
 {
     let t = take(s, at, w);

@@ -1,5 +1,5 @@
--- `format::read_field` meets its contract: the law of a field that is taken and judged; where a number comes, the value given back does not count.
-use mathlib.Core.Path.{_≡_, sym, ap, _∙_}
+-- `format::read_field` meets its contract: the law of a field that is taken and judged; where a number comes, the value given back is 0.
+use mathlib.Core.Path.{_≡_, refl, sym, ap, _∙_}
 use mathlib.Core.Bool.{true}
 use Prim.Native.Nat.{_+_, _≤_}
 use native.Mathlib.Omega.{arith}
@@ -9,7 +9,7 @@ use Rattle.format.specs.Format.{field, within}
 use Rattle.format.specs.Steps.{from, resOf}
 use Rattle.format.specs.declared.Cursor.{Cursor}
 use Rattle.format.proofs.Fault.{judged-pos, judged-true}
-use Rattle.format.proofs.Chain.{res-any, chain-field, within-true}
+use Rattle.format.proofs.Chain.{res-any, chain-field, taken-is, res-bits, within-true}
 use Rattle.format.proofs.read_field.Statement.{statement}
 use Rattle.format.proofs.read_field.Tie as tie
 
@@ -31,7 +31,7 @@ module _ (c : tie.After-judged) where
       let t = c .before .before .take in
       let b = c .before .within in
       ap (λ (x : Cursor). resOf x (t .result .value)) (c .judged .ensures)
-      ∙ chain-field (a .w) _ (a .n) (a .s .now) _ _ _ _ (t .ensures .0) (b .ensures) (omega arith)
+      ∙ chain-field (a .w) _ (a .n) (a .s .now) _ _ _ _ (res-bits (a .s .now) (a .at) (a .w) (t .result) (t .ensures .0)) (b .ensures) (omega arith)
 
   place : let a = c .before .before .before .before .args in c .judged .result .pos ≤ a .at .pos + a .w
   place =
@@ -42,7 +42,7 @@ module _ (c : tie.After-judged) where
 returns : tie.Need-returns
 returns c =
     let k = c .before .before in (
-      res-any (k .judged .result) 0 (k .before .before .take .result .value) (omega arith) ∙ read k,
+      taken-is _ _ (res-any (k .judged .result) 0 (k .before .before .take .result .value) (omega arith) ∙ read k) (λ _. refl),
       record { place = place k; fits = pow-pos (k .before .before .before .before .args .w); below = omega arith },
     )
 
@@ -53,8 +53,10 @@ returns-2 c =
     let t = k .before .before .take in
     let b = k .before .within in
     let z : within (a .lo) (a .end) (t .result .value) ≡ true =
-    sym (b .ensures) ∙ judged-true (t .result .at) (b .result) (a .n) (omega arith) (ap (λ (x : Cursor). x .number) (sym (k .judged .ensures)) ∙ c .if1 .left) in
-    (read k, record { place = place k; fits = t .ensures .1 .fits; below = omega (arith, within-true (a .lo) (a .end) (t .result .value) z .1) })
+    sym (b .ensures) ∙ judged-true (t .result .at) (b .result) (a .n) (omega arith) (ap (λ (x : Cursor). x .number) (sym (k .judged .ensures)) ∙ c .if1 .left) in (
+      taken-is _ _ (read k) (λ h. absurd (omega arith)),
+      record { place = place k; fits = t .ensures .1 .fits; below = omega (arith, within-true (a .lo) (a .end) (t .result .value) z .1) },
+    )
 
 pub read-field-spec : {M : Type 1} → statement M
 read-field-spec = tie.close (tie.spec take-requires within-requires judged-requires returns returns-2)

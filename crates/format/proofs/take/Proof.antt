@@ -17,7 +17,7 @@ use Rattle.format.specs.Steps.{resOf}
 use Rattle.format.specs.declared.bit_reader.Found.{Found}
 use Rattle.format.proofs.Reader.{found-field, found-on}
 use Rattle.format.proofs.Fault.{taken-value, taken-short}
-use Rattle.format.proofs.Chain.{from-good, res-good, res-bad, chain-skip}
+use Rattle.format.proofs.Chain.{from-good, res-good, res-bad, chain-skip, taken-is}
 use Rattle.format.proofs.take.Statement.{statement}
 use Rattle.format.proofs.take.Tie as tie
 
@@ -46,8 +46,10 @@ module _ (s : List ℕ) (pos w : ℕ) (n : w ≤ 24) where
 
 returns : tie.Need-returns
 returns c =
-    let a = c .before .before .before .args in
-    (chain-skip (λ q. taken (a .s .now) q (a .w)) (a .at) 0 (omega arith), record { place = omega arith; fits = pow-pos (a .w); below = omega arith })
+    let a = c .before .before .before .args in (
+      taken-is _ _ (chain-skip (λ q. taken (a .s .now) q (a .w)) (a .at) 0 (omega arith)) (λ _. refl),
+      record { place = omega arith; fits = pow-pos (a .w); below = omega arith },
+    )
 
 read-at-requires : tie.Need-read-at-requires
 read-at-requires c κs = search needs
@@ -72,7 +74,8 @@ returns-2 c =
     let f = is-field _ _ _ _ (k .read-at .ensures) (c .before .f .given .1) in
     let e = there (a .s .now) (a .at .pos) (a .w) (omega arith) x f in
     let p = is-on _ _ _ _ (k .read-at .ensures) x f in (
-      ap (λ (q : ℕ). resOf record { number = 0; pos = q } x) p ∙ res-good _ x refl ∙ sym (from-good (a .at) _ (k .before .if1 .left) ∙ e .1),
+      taken-is _ _ (ap (λ (q : ℕ). resOf record { number = 0; pos = q } x) p ∙ res-good _ x refl ∙ sym (from-good (a .at) _ (k .before .if1 .left) ∙ e .1))
+          (λ h. absurd (omega arith)),
       record {
         place = omega (arith, p);
         fits = omega (arith, e .0, number-lt (a .s .now) (a .at .pos) (a .w));
@@ -85,7 +88,7 @@ returns-3 c =
     let k = c .before .before in
     let a = k .before .before .before .before .args in
     let e = absent (a .s .now) (a .at .pos) (a .w) (omega arith) (is-field _ _ _ _ (k .read-at .ensures) (c .enum-told .given .1)) in (
-      res-bad _ 0 (omega arith) ∙ ap (bad 1) (omega arith) ∙ sym (from-good (a .at) _ (k .before .if1 .left) ∙ e .1),
+      taken-is _ _ (res-bad _ 0 (omega arith) ∙ ap (bad 1) (omega arith) ∙ sym (from-good (a .at) _ (k .before .if1 .left) ∙ e .1)) (λ _. refl),
       record { place = omega (arith, e .0); fits = pow-pos (a .w); below = omega arith },
     )
 

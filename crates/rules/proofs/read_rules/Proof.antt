@@ -5,7 +5,7 @@ use native.Mathlib.Omega.{arith}
 use Rattle.format.specs.File.{readFile}
 use Rattle.format.specs.Steps.{resOf, judged}
 use Rattle.format.specs.declared.Cursor.{Cursor}
-use Rattle.format.proofs.Chain.{from-good, chain-file}
+use Rattle.format.proofs.Chain.{from-good, chain-file, res-field}
 use Rattle.policy.specs.File.{policyFormat}
 use Rattle.policy.specs.Rules.{policyOf}
 use Rattle.rules.specs.Answers.{answerOf, beside}
@@ -36,8 +36,10 @@ no-rules-requires c κs = search needs
 ended : (c : tie.After-judged) → resOf (c .judged .result) (policyOf (c .before .before .before .before .before .before .read-policy .result .rules)) ≡ readFile policyFormat (c .before .before .before .before .before .before .before .before .args .file .now)
 ended c =
     let p = c .before .before .before .before .before .before in
+    let s = p .before .before .args .file .now in
     ap (λ (x : Cursor). resOf x (policyOf (p .read-policy .result .rules))) (c .judged .ensures)
-    ∙ chain-file policyFormat (p .before .before .args .file .now) _ _ _ _ _ _ refl refl (p .read-policy .ensures .0 ∙ sym (from-good record { number = 0; pos = 0 } _ refl)) (c .before .before .before .read-field .ensures .0) (c .before .at-end .ensures)
+    ∙ chain-file policyFormat s _ _ _ _ _ _ refl refl (p .read-policy .ensures .0 ∙ sym (from-good record { number = 0; pos = 0 } _ refl))
+    (res-field _ _ 3 s _ _ (omega arith) (c .before .before .before .read-field .ensures .0)) (c .before .at-end .ensures)
 
 returns : tie.Need-returns
 unfolding answerOf beside

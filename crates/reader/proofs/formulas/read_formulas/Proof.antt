@@ -11,7 +11,7 @@ use lib.ListN.{length, getD, set}
 use lib.Seq.{getD-set-same, getD-set-other}
 use Rattle.format.specs.Format.{Format}
 use Rattle.format.specs.Steps.{from, resOf}
-use Rattle.format.proofs.Chain.{chain-pair, chain-via}
+use Rattle.format.proofs.Chain.{chain-pair, chain-via, res-field}
 use Rattle.policy.specs.File.{formulaFormat}
 use Rattle.policy.specs.Rules.{listsOf, nodesOf, formulasOf}
 use Rattle.policy.specs.declared.Classes.{Classes}
@@ -88,7 +88,7 @@ loop-again c =
     let inside : l .f < length (l .lengths) = omega (arith, l .inv .2, c .before .before .before .before .before .before .before .before .pre .0) in
     let read : resOf (m .result) (nodesOf (m .last .1 .1 .1 .1 .1 .0) (l .f) x)
     ≡ from (l .p) (row (a .classes) (formulasOf (l .nodes) (l .lengths) (l .f)) .read (a .s .now)) =
-    chain-via _ _ _ (a .s .now) _ _ _ (chain-pair _ _ (a .s .now) _ _ _ _ _ (n .ensures .0) (m .ensures .0))
+    chain-via _ _ _ (a .s .now) _ _ _ (chain-pair _ _ (a .s .now) _ _ _ _ _ (res-field _ _ 8 (a .s .now) _ _ (omega arith) (n .ensures .0)) (m .ensures .0))
     ∙ ap (λ (k : ℕ). from (l .p) (formulaFormat (listsOf (a .classes)) k .read (a .s .now))) (sym (formulas-length (l .nodes) (l .lengths) (l .f))) in (
       search needs,
       search needs,

@@ -11,7 +11,7 @@ use lib.Seq.{getD-set-other}
 use Rattle.format.specs.Format.{Format, field}
 use Rattle.format.specs.Steps.{from, resOf}
 use Rattle.format.specs.declared.Cursor.{Cursor}
-use Rattle.format.proofs.Chain.{chain-field}
+use Rattle.format.proofs.Chain.{chain-field, res-bits}
 use Rattle.format.proofs.Fault.{judged-pos}
 use Rattle.policy.specs.Nodes.{nodeOk}
 use Rattle.policy.specs.Rules.{listsOf, nodesOf}
@@ -85,7 +85,7 @@ loop-again c =
     let same : c .judged .result .pos ≡ t .result .at .pos = ap (λ (z : Cursor). z .pos) (c .judged .ensures) ∙ judged-pos (t .result .at) (o .result) 8 in
     let read : resOf (c .judged .result) x ≡ from (l .p) (row (a .classes) (a .f) (nodesOf (l .nodes) (a .f) (l .i)) .read (a .s .now)) =
     ap (λ (z : Cursor). resOf z x) (c .judged .ensures)
-    ∙ chain-field 20 _ 8 (a .s .now) (l .p) (t .result .at) x (o .result) (t .ensures .0)
+    ∙ chain-field 20 _ 8 (a .s .now) (l .p) (t .result .at) x (o .result) (res-bits (a .s .now) (l .p) 20 (t .result) (t .ensures .0))
     (o .ensures ∙ ap (λ (k : ℕ). nodeOk (listsOf (a .classes)) (a .f) k x) (sym (nodes-length (l .nodes) (a .f) (l .i)))) (omega arith) in (
       search needs,
       search needs,

@@ -2,7 +2,7 @@
 use Prim.Native.Nat.{_+_, _≤_}
 use native.Mathlib.Omega.{arith}
 use borrow.Author.Needs.{needs}
-use Rattle.format.proofs.Chain.{chain-pair, chain-via, chain-zeros}
+use Rattle.format.proofs.Chain.{chain-pair, chain-via, chain-zeros, res-field}
 use Rattle.policy.specs.File.{count, headFormat}
 use Rattle.reader.specs.Parts.{headOf}
 use Rattle.reader.proofs.head.read_counts.Statement.{statement}
@@ -75,13 +75,13 @@ returns c =
     let s = k₁ .before .before .args .s .now in (
       chain-via _ _ _ s _ _ _
           (chain-zeros _ 7 3 s _ _ _ _ _
-          (chain-pair _ _ s _ _ _ _ _ (k₁ .read-field .ensures .0)
-          (chain-pair _ _ s _ _ _ _ _ (k₂ .read-field2 .ensures .0)
-          (chain-pair _ _ s _ _ _ _ _ (k₃ .read-field3 .ensures .0)
-          (chain-pair _ _ s _ _ _ _ _ (k₄ .read-field4 .ensures .0)
-          (chain-pair _ _ s _ _ _ _ _ (k₅ .read-field5 .ensures .0)
-          (chain-pair _ _ s _ _ _ _ _ (k₆ .read-field6 .ensures .0) (k₇ .read-field7 .ensures .0)))))))
-          (k₈ .read-field8 .ensures .0)),
+          (chain-pair _ _ s _ _ _ _ _ (res-field _ _ 2 s _ _ (omega arith) (k₁ .read-field .ensures .0))
+          (chain-pair _ _ s _ _ _ _ _ (res-field _ _ 2 s _ _ (omega arith) (k₂ .read-field2 .ensures .0))
+          (chain-pair _ _ s _ _ _ _ _ (res-field _ _ 2 s _ _ (omega arith) (k₃ .read-field3 .ensures .0))
+          (chain-pair _ _ s _ _ _ _ _ (res-field _ _ 2 s _ _ (omega arith) (k₄ .read-field4 .ensures .0))
+          (chain-pair _ _ s _ _ _ _ _ (res-field _ _ 2 s _ _ (omega arith) (k₅ .read-field5 .ensures .0))
+          (chain-pair _ _ s _ _ _ _ _ (res-field _ _ 2 s _ _ (omega arith) (k₆ .read-field6 .ensures .0)) (res-field _ _ 2 s _ _ (omega arith) (k₇ .read-field7 .ensures .0))))))))
+          (res-field _ _ 3 s _ _ (omega arith) (k₈ .read-field8 .ensures .0))),
       (
         record {
           user = omega (arith, k₁ .read-field .ensures .1 .below);

@@ -5,7 +5,7 @@ use native.Mathlib.Omega.{arith}
 use borrow.Author.Needs.{needs}
 use Rattle.format.specs.Format.{within, field}
 use Rattle.format.specs.Steps.{from, resOf}
-use Rattle.format.proofs.Chain.{chain-pair, chain-via, chain-zeros}
+use Rattle.format.proofs.Chain.{chain-pair, chain-via, chain-zeros, res-field}
 use Rattle.policy.specs.File.{largest, attrFormat}
 use Rattle.reader.specs.Parts.{attrOf}
 use Rattle.reader.proofs.lists.read_attr.Statement.{statement}
@@ -42,8 +42,9 @@ returns c =
     let s = kk .before .before .args .s .now in
     let size : resOf (kn .read-field2 .result .at) (kn .read-field2 .result .value)
     ≡ from (kk .read-field .result .at) (field 5 (within 1 (largest (kk .read-field .result .value) + 1)) 4 .read s) =
-    rw (← kl .largest .ensures .0) (kn .read-field2 .ensures .0) in (
-      chain-via _ _ _ s _ _ _ (chain-zeros _ 6 3 s _ _ _ _ _ (chain-pair _ _ s _ _ _ _ _ (kk .read-field .ensures .0) size) (kz .read-field3 .ensures .0)),
+    rw (← kl .largest .ensures .0) (res-field _ _ 4 s _ _ (omega arith) (kn .read-field2 .ensures .0)) in (
+      chain-via _ _ _ s _ _ _ (chain-zeros _ 6 3 s _ _ _ _ _ (chain-pair _ _ s _ _ _ _ _ (res-field _ _ 4 s _ _ (omega arith) (kk .read-field .ensures .0)) size)
+          (res-field _ _ 3 s _ _ (omega arith) (kz .read-field3 .ensures .0))),
       omega (arith, kz .read-field3 .ensures .1 .place, kn .read-field2 .ensures .1 .place, kk .read-field .ensures .1 .place),
     )
 

@@ -1,7 +1,7 @@
 -- `reader::values::read_session` meets its contract: the user and the value one after the other are the format's. Assumes nothing.
 use native.Mathlib.Omega.{arith}
 use borrow.Author.Needs.{needs}
-use Rattle.format.proofs.Chain.{chain-pair, chain-via}
+use Rattle.format.proofs.Chain.{chain-pair, chain-via, res-field}
 use Rattle.policy.specs.File.{sessionFormat}
 use Rattle.reader.specs.Parts.{sessionOf}
 use Rattle.reader.proofs.values.read_session.Statement.{statement}
@@ -25,7 +25,7 @@ returns c =
     let kv = c .before .before .before in
     let ku = kv .before in
     let s = ku .before .before .args .s .now in (
-      chain-via _ _ _ s _ _ _ (chain-pair _ _ s _ _ _ _ _ (ku .read-field .ensures .0) (kv .read-value .ensures .0)),
+      chain-via _ _ _ s _ _ _ (chain-pair _ _ s _ _ _ _ _ (res-field _ _ 7 s _ _ (omega arith) (ku .read-field .ensures .0)) (kv .read-value .ensures .0)),
       omega (arith, ku .read-field .ensures .1 .place, kv .read-value .ensures .1 .0),
     )
 

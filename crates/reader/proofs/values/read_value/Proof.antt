@@ -7,6 +7,7 @@ use native.Mathlib.Nat.{mod-eq-of-lt}
 use native.Mathlib.Omega.{arith}
 use borrow.Author.Needs.{needs}
 use Rattle.format.specs.Steps.{judged}
+use Rattle.format.proofs.Chain.{res-bits}
 use Rattle.policy.specs.Rules.{attrAt}
 use Rattle.reader.proofs.Value.{Partly, partly-none, partly-room, partly-more, partly-below, partly-all}
 use Rattle.reader.proofs.values.read_value.Statement.{statement}
@@ -85,7 +86,7 @@ loop-again c =
       search needs,
       rw (c .judged .ensures, exact)
           (partly-more (a .s .now) (a .class) (a .at) (l .p) (l .v) (l .i) w (omega arith) (l .inv .2) (b .bits-for .ensures) (t .result .at) (t .result .value) (o .result)
-          (t .ensures .0) (t .ensures .1 .fits) (t .ensures .1 .place) (o .ensures)),
+          (res-bits (a .s .now) (l .p) w (t .result) (t .ensures .0)) (t .ensures .1 .fits) (t .ensures .1 .place) (o .ensures)),
     )
 
 take-requires-2 : tie.Need-take-requires-2 Inv-loop μ-loop
@@ -96,7 +97,8 @@ returns c =
     let t = c .before .take2 in
     let l = c .before .before .before .loop in
     let a = c .before .before .before .before .before .before .before .before .args in (
-      partly-all (a .s .now) (a .class) (a .at) (l .p) (l .v) (l .i) (omega arith) (l .inv .2) (t .result .at) (t .result .value) (t .ensures .0) (t .ensures .1 .fits),
+      partly-all (a .s .now) (a .class) (a .at) (l .p) (l .v) (l .i) (omega arith) (l .inv .2) (t .result .at) (t .result .value)
+          (res-bits (a .s .now) (l .p) 0 (t .result) (t .ensures .0)) (t .ensures .1 .fits),
       (omega (arith, t .ensures .1 .place, l .inv .2 .place), partly-below (a .s .now) (a .class) (a .at) (l .p) (l .v) (l .i) (omega arith) (l .inv .2)),
     )
 

@@ -1,5 +1,6 @@
 -- Laws of rules in memory and of attributes. In order: tables; attributes of a class, values, starting sessions, nodes and formulas, each
--- with none, one more that is stored, one more that is read, and how many; the fewest bits; widths; values that a format takes.
+-- with none, one more that is stored, one more that is read, and how many; the rules beside a number; the fewest bits; widths; values that a
+-- format takes.
 -- Not here: nodes by their operators (NodeLaws), the format's laws (PolicyLaw).
 use mathlib.Core.Path.{_≡_, refl, sym, ap, _∙_, subst}
 use mathlib.Core.Bool.{cond}
@@ -9,7 +10,7 @@ use Prim.Native.Nat.{ℕ, zero, suc, _+_, _*_, _/_, _%_, _^_, _≤_, _<_}
 use native.Mathlib.Decide.{decLe}
 use native.Mathlib.Nat.{div-lt-iff-lt-mul}
 use native.Mathlib.Omega.{arith}
-use borrow.Author.Tests.{le-leb, lt-leb}
+use borrow.Author.Tests.{le-leb, lt-leb, eq-eqb, ne-eqb}
 use lib.Dec.{leb}
 use lib.ListN.{length, getD, set}
 use lib.Pow.{pow-pos, pow-mono, pow-add}
@@ -21,10 +22,11 @@ use Rattle.format.specs.Format.{within, via}
 use Rattle.format.proofs.Law.{judged-field, judged-pair}
 use Rattle.policy.specs.Policy.{Attr, fewestFrom, fewestBits, bitsFor, codes, width}
 use Rattle.policy.specs.File.{valueFormat}
-use Rattle.policy.specs.Rules.{attrAt, attrsOf, valuesOf, sessionsOf, nodesOf, formulasOf}
+use Rattle.policy.specs.Rules.{attrAt, attrsOf, valuesOf, sessionsOf, nodesOf, formulasOf, noRules, rulesBeside}
 use Rattle.policy.specs.declared.Class.{Class}
 use Rattle.policy.specs.declared.Values.{Values}
 use Rattle.policy.specs.declared.Sessions.{Sessions}
+use Rattle.policy.specs.declared.Rules.{Rules}
 
 module _ {A : Type 0} where
   -- the first i + 1 of a table are the first i of another that agrees with it there, and x
@@ -157,6 +159,16 @@ formulas-next l lengths f = tab-more _ f
 pub formulas-length : (l lengths : List ℕ) (n : ℕ) → length (formulasOf l lengths n) ≡ n
 unfolding formulasOf
 formulas-length l lengths n = length-tab _ 0 n
+
+-- the rules beside a number
+
+pub beside-good : (n : ℕ) (r : Rules) → n ≡ 0 → r ≡ rulesBeside n r
+unfolding rulesBeside
+beside-good n r z = simp (eq-eqb n 0 z)
+
+pub beside-bad : (n : ℕ) (r : Rules) → 0 < n → r ≡ noRules → r ≡ rulesBeside n r
+unfolding rulesBeside
+beside-bad n r z e = e ∙ simp (ne-eqb n 0 (λ d. omega arith))
 
 -- the fewest bits
 

@@ -1,9 +1,12 @@
 -- Rules in memory stand for a policy: lists cut to their counts, so that places that no count covers are not seen
--- [01:The rule file, "places that no count covers are not compared"]. A place past the end of an array holds 0.
+-- [01:The rule file, "places that no count covers are not compared"]. A place past the end of an array holds 0. Where a number is given
+-- instead of rules, the rules of no file stand beside it.
 -- Assumes nothing.
+use mathlib.Core.Bool.{cond}
 use mathlib.Core.List.{List}
 use Prim.Native.Nat.{ℕ, _+_, _*_}
-use lib.ListN.{getD}
+use lib.Dec.{eqb}
+use lib.ListN.{getD, replicate}
 use Rattle.bits.specs.Packed.{tab}
 use Rattle.policy.specs.Policy.{Attr, Lists, Session, Policy}
 use Rattle.policy.specs.declared.Class.{Class}
@@ -60,3 +63,22 @@ policyOf r =
       items = valuesOf (r .items);
       formulas = formulasOf (r .nodes) (r .lengths) (4 + r .permissions);
     }
+
+-- the rules of no file: every count and every place is 0
+unfoldable pub noRules : Rules
+noRules =
+    let none : Class = record { count = 0; kinds = replicate 8 0; sizes = replicate 8 0 } in
+    let empty : Values = record { count = 0; values = replicate 32 0 } in
+    record {
+      classes = record { user = none; session = none; item = none };
+      users = empty;
+      sessions = record { count = 0; users = replicate 32 0; values = replicate 32 0 };
+      items = empty;
+      permissions = 0;
+      lengths = replicate 12 0;
+      nodes = replicate 768 0;
+    }
+
+-- the rules beside a number: those of no file, unless it is 0, which stands for none
+unfoldable pub rulesBeside : ℕ → Rules → Rules
+rulesBeside n r = cond (eqb n 0) r noRules

@@ -1,4 +1,7 @@
 // Rules in memory, and what each of their parts may hold. The meaning of the rule file is in specs/.
+ghost use mathlib.Core.Path.{_≡_};
+ghost use Rattle.policy.specs.Rules.{noRules};
+
 pub mod nodes;
 pub mod shape;
 
@@ -40,4 +43,38 @@ pub struct Rules {
     pub permissions: u8,
     pub lengths: [u8; 12],
     pub nodes: [u32; 768],
+}
+
+// The rules of no file: every count and every place is 0.
+pub fn no_rules() -> Rules
+    ensures { λ r. ⌜ r ≡ noRules ⌝ }
+{
+    let none = Class {
+        count: 0,
+        kinds: [0; 8],
+        sizes: [0; 8],
+    };
+    let empty = Values {
+        count: 0,
+        values: [0; 32],
+    };
+    let classes = Classes {
+        user: none,
+        session: none,
+        item: none,
+    };
+    let sessions = Sessions {
+        count: 0,
+        users: [0; 32],
+        values: [0; 32],
+    };
+    Rules {
+        classes,
+        users: empty,
+        sessions,
+        items: empty,
+        permissions: 0,
+        lengths: [0; 12],
+        nodes: [0; 768],
+    }
 }

@@ -5,7 +5,7 @@ ghost use Prim.Native.Nat.{_≤_};
 ghost use Rattle.format.specs.Format.{Format};
 ghost use Rattle.format.specs.Steps.{resOf};
 ghost use Rattle.policy.specs.File.{policyFormat};
-ghost use Rattle.policy.specs.Rules.{policyOf};
+ghost use Rattle.policy.specs.Rules.{policyOf, rulesBeside};
 
 mod formulas;
 mod head;
@@ -21,6 +21,7 @@ use policy::Classes;
 use policy::Rules;
 use policy::Sessions;
 use policy::Values;
+use policy::no_rules;
 use values::read_sessions;
 use values::read_values;
 
@@ -81,15 +82,16 @@ pub struct FormulasRead {
     pub nodes: [u32; 768],
 }
 
-// Rules as they were read.
+// Rules as they were read; those of no file where a number was given.
 pub struct RulesRead {
     pub at: Cursor,
     pub rules: Rules,
 }
 
-// The whole file up to its filling bits.
+// The whole file up to its filling bits; beside a number the rules of no file.
 pub fn read_policy(s: &[u8]) -> RulesRead
     ensures { λ r. ⌜ resOf (r .at) (policyOf (r .rules)) ≡ policyFormat .read (now (s .entry)) 0 ⌝ }
+    ensures { λ r. ⌜ r .rules ≡ rulesBeside (r .at .number) (r .rules) ⌝ }
     ensures { λ r. ⌜ r .at .pos ≤ 16680 ⌝ }
 {
     let h = read_counts(s, Cursor { number: 0, pos: 0 });
@@ -100,6 +102,13 @@ pub fn read_policy(s: &[u8]) -> RulesRead
     let i = read_values(s, t.at, classes.item, h.items);
     let f = read_formulas(s, i.at, classes, h.permissions);
     let next = f.at;
+    if next.number != 0 {
+        let none = no_rules();
+        return RulesRead {
+            at: next,
+            rules: none,
+        };
+    }
     let users = u.values;
     let sessions = t.sessions;
     let items = i.values;

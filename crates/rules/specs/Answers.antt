@@ -6,13 +6,12 @@ use mathlib.Core.Bool.{cond}
 use mathlib.Core.List.{List, _++_}
 use Prim.Native.Nat.{ℕ}
 use lib.Dec.{leb}
-use lib.ListN.{length, drop, replicate}
+use lib.ListN.{length, drop}
 use Rattle.format.specs.Format.{Res, ok, bad}
 use Rattle.format.specs.File.{Bytes, refused, bytes, readFile, writeFile}
 use Rattle.policy.specs.Policy.{Policy}
 use Rattle.policy.specs.File.{policyFormat}
-use Rattle.policy.specs.declared.Class.{Class}
-use Rattle.policy.specs.declared.Values.{Values}
+use Rattle.policy.specs.Rules.{noRules}
 use Rattle.policy.specs.declared.Rules.{Rules}
 use Rattle.rules.specs.declared.Reading.{Reading}
 use Rattle.rules.specs.declared.Reading.the-variants as Reading
@@ -37,21 +36,6 @@ answered (bad n q) = refusal n
 -- what reading a file answers
 unfoldable pub reading : List ℕ → Answer
 reading s = answered (readFile policyFormat s)
-
--- the rules of no file: every count and every place is 0
-unfoldable pub noRules : Rules
-noRules =
-    let none : Class = record { count = 0; kinds = replicate 8 0; sizes = replicate 8 0 } in
-    let empty : Values = record { count = 0; values = replicate 32 0 } in
-    record {
-      classes = record { user = none; session = none; item = none };
-      users = empty;
-      sessions = record { count = 0; users = replicate 32 0; values = replicate 32 0 };
-      items = empty;
-      permissions = 0;
-      lengths = replicate 12 0;
-      nodes = replicate 768 0;
-    }
 
 -- the rules beside an answer: where a number is given they are those of no file
 unfoldable pub beside : Reading → Rules → Rules

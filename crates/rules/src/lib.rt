@@ -5,14 +5,11 @@ ghost use Prim.Native.Nat.{_*_, _^_, _<_};
 ghost use lib.Dec.{eqb};
 ghost use lib.ListN.{length};
 ghost use Rattle.policy.specs.Rules.{policyOf};
-ghost use Rattle.rules.specs.Answers.{answerOf, reading, beside, noRules, writing, writtenOf, filled};
+ghost use Rattle.rules.specs.Answers.{answerOf, reading, beside, writing, writtenOf, filled};
 use format::judged;
 use format::read_field;
-use policy::Class;
-use policy::Classes;
 use policy::Rules;
-use policy::Sessions;
-use policy::Values;
+use policy::no_rules;
 
 // What reading a file found: rules, or the number that is given instead.
 pub enum Reading {
@@ -30,40 +27,6 @@ pub struct Parsed {
 pub enum Written {
     Length(usize),
     Refused(u8),
-}
-
-// The rules of no file: every count and every place is 0.
-fn no_rules() -> Rules
-    ensures { λ r. ⌜ r ≡ noRules ⌝ }
-{
-    let none = Class {
-        count: 0,
-        kinds: [0; 8],
-        sizes: [0; 8],
-    };
-    let empty = Values {
-        count: 0,
-        values: [0; 32],
-    };
-    let classes = Classes {
-        user: none,
-        session: none,
-        item: none,
-    };
-    let sessions = Sessions {
-        count: 0,
-        users: [0; 32],
-        values: [0; 32],
-    };
-    Rules {
-        classes,
-        users: empty,
-        sessions,
-        items: empty,
-        permissions: 0,
-        lengths: [0; 12],
-        nodes: [0; 768],
-    }
 }
 
 // Whether pos is the end of the bits.
@@ -87,6 +50,7 @@ pub fn read_rules(file: &[u8]) -> Parsed
     let fill = read_field(file, at, (8 - at.pos % 8) % 8, 0, 1, 3);
     let next = fill.at;
     let end = judged(next, at_end(file, next.pos), 3);
+    let rules = r.rules;
     if end.number != 0 {
         let none = no_rules();
         return Parsed {
@@ -94,7 +58,6 @@ pub fn read_rules(file: &[u8]) -> Parsed
             rules: none,
         };
     }
-    let rules = r.rules;
     Parsed {
         answer: Reading::Accepted,
         rules,

@@ -9,12 +9,12 @@ use borrow.Author.Tests.{le-leb, lt-leb}
 use lib.Dec.{leb}
 use lib.ListN.{length, drop, getD, set, length-append, length-map}
 use lib.Seq.{drop-cons, set-at}
-use Rattle.policy.specs.Rules.{sessionsOf, valuesOf, policyOf}
+use Rattle.policy.specs.Rules.{sessionsOf, valuesOf, policyOf, noRules}
 use Rattle.policy.specs.declared.Rules.{Rules}
 use Rattle.policy.specs.declared.Sessions.{Sessions}
 use Rattle.policy.specs.declared.Values.{Values}
 use Rattle.policy.proofs.Laws.{values-none, values-next, values-length, sessions-none, sessions-next, sessions-length}
-use Rattle.rules.specs.Answers.{Answer, refusal, rules, beside, noRules}
+use Rattle.rules.specs.Answers.{Answer, refusal, rules, beside}
 use Rattle.rules.specs.declared.Reading.{Reading}
 use Rattle.rules.specs.declared.Reading.the-variants as Reading
 use Rattle.cells.specs.Cell.{openCell, itemCell}

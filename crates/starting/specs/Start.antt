@@ -6,8 +6,8 @@ use Prim.Native.Nat.{ℕ}
 use lib.Dec.{leb}
 use lib.ListN.{length, drop}
 use Rattle.policy.specs.Policy.{Session, Policy}
-use Rattle.policy.specs.Rules.{policyOf}
-use Rattle.rules.specs.Answers.{Answer, refusal, rules, noRules}
+use Rattle.policy.specs.Rules.{policyOf, noRules}
+use Rattle.rules.specs.Answers.{Answer, refusal, rules}
 use Rattle.runs.specs.State.{State, begin}
 use Rattle.cells.specs.Cell.{openCell, itemCell}
 use Rattle.live.specs.Lent.{After, refused, done, tested}

@@ -42,7 +42,7 @@ module _ (c : tie.After-judged) where
 returns : tie.Need-returns
 returns c =
     let k = c .before .before in (
-      taken-is _ _ (res-any (k .judged .result) 0 (k .before .before .take .result .value) (omega arith) ∙ read k) (λ _. refl),
+      taken-is _ _ (res-any (k .judged .result) _ (k .before .before .take .result .value) (omega arith) ∙ read k) (λ _. refl),
       record { place = place k; fits = pow-pos (k .before .before .before .before .args .w); below = omega arith },
     )
 

@@ -47,7 +47,7 @@ module _ (s : List ℕ) (pos w : ℕ) (n : w ≤ 24) where
 returns : tie.Need-returns
 returns c =
     let a = c .before .before .before .args in (
-      taken-is _ _ (chain-skip (λ q. taken (a .s .now) q (a .w)) (a .at) 0 (omega arith)) (λ _. refl),
+      taken-is _ _ (chain-skip (λ q. taken (a .s .now) q (a .w)) (a .at) _ (omega arith)) (λ _. refl),
       record { place = omega arith; fits = pow-pos (a .w); below = omega arith },
     )
 
@@ -88,7 +88,7 @@ returns-3 c =
     let k = c .before .before in
     let a = k .before .before .before .before .args in
     let e = absent (a .s .now) (a .at .pos) (a .w) (omega arith) (is-field _ _ _ _ (k .read-at .ensures) (c .enum-told .given .1)) in (
-      taken-is _ _ (res-bad _ 0 (omega arith) ∙ ap (bad 1) (omega arith) ∙ sym (from-good (a .at) _ (k .before .if1 .left) ∙ e .1)) (λ _. refl),
+      taken-is _ _ (res-bad _ _ (omega arith) ∙ ap (bad 1) (omega arith) ∙ sym (from-good (a .at) _ (k .before .if1 .left) ∙ e .1)) (λ _. refl),
       record { place = omega (arith, e .0); fits = pow-pos (a .w); below = omega arith },
     )
 

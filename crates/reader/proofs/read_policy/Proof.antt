@@ -1,11 +1,16 @@
 -- `reader::read_policy` meets its contract: the six parts one after another are the format's, and the counts that the rules keep are the head's,
--- unless a number was given, where they don't matter. Assumes nothing.
-use mathlib.Core.Path.{refl, _∙_}
+-- unless a number was given; then the rules of no file stand beside it. Assumes nothing.
+use mathlib.Core.Path.{_≡_, refl, _∙_}
+use Prim.Native.Nat.{_≤_}
 use native.Mathlib.Omega.{arith}
 use borrow.Author.Needs.{needs}
-use Rattle.format.proofs.Chain.{from-good, chain-pair, chain-via}
+use Rattle.format.specs.Format.{Format}
+use Rattle.format.specs.Steps.{resOf}
+use Rattle.format.proofs.Chain.{from-good, res-any, chain-pair, chain-via}
 use Rattle.policy.specs.File.{policyFormat}
-use Rattle.policy.specs.Rules.{listsOf}
+use Rattle.policy.specs.Rules.{listsOf, policyOf}
+use Rattle.policy.specs.declared.Rules.{Rules}
+use Rattle.policy.proofs.Laws.{beside-good, beside-bad}
 use Rattle.reader.specs.Parts.{headOf}
 use Rattle.reader.proofs.Counted.{underHead, read-counted}
 use Rattle.reader.proofs.read_policy.Statement.{statement}
@@ -43,35 +48,77 @@ read-formulas-requires c κs =
       ),
     )
 
-returns : tie.Need-returns
-unfolding policyFormat headOf listsOf underHead
-returns c =
-    let kf = c .before .before .before .before .before .before in
-    let ki = kf .before in
+-- the rules that were read, before it is known whether a number was given
+unfoldable asRead : tie.After-read-formulas → Rules
+asRead c =
+    let ki = c .before in
     let kt = ki .before in
     let ku = kt .before in
     let kc = ku .before .before in
     let kh = kc .before in
-    let a = kh .before .before .args in
-    let s = a .s .now in (
-      read-counted (kh .read-counts .result) _ (ku .read-values .ensures .1 .1) (kt .read-sessions .ensures .1 .1) (ki .read-values2 .ensures .1 .1) refl s _ _
-          (chain-via _ _ _ s _ _ _
-          (chain-pair _ _ s _ _ _ _ _ (kh .read-counts .ensures .0)
-          (chain-pair _ _ s _ _ _ _ _ (kc .read-classes .ensures .0)
-          (chain-pair _ _ s _ _ _ _ _ (ku .read-values .ensures .0)
-          (chain-pair _ _ s _ _ _ _ _ (kt .read-sessions .ensures .0)
-          (chain-pair _ _ s _ _ _ _ _ (ki .read-values2 .ensures .0) (kf .read-formulas .ensures .0)))))))
-          ∙ from-good _ _ refl,
+    record {
+      classes = kc .read-classes .result .classes;
+      users = ku .read-values .result .values;
+      sessions = kt .read-sessions .result .sessions;
+      items = ki .read-values2 .result .values;
+      permissions = kh .read-counts .result .permissions;
+      lengths = c .read-formulas .result .lengths;
+      nodes = c .read-formulas .result .nodes;
+    }
+
+module _ (c : tie.After-read-formulas) where
+  read : let a = c .before .before .before .before .before .before .before .before .args in
+      resOf (c .read-formulas .result .at) (policyOf (asRead c)) ≡ policyFormat .read (a .s .now) 0
+  unfolding policyFormat headOf listsOf underHead asRead
+  read =
+      let ki = c .before in
+      let kt = ki .before in
+      let ku = kt .before in
+      let kc = ku .before .before in
+      let kh = kc .before in
+      let a = kh .before .before .args in
+      let s = a .s .now in
+      read-counted (kh .read-counts .result) (asRead c) (ku .read-values .ensures .1 .1) (kt .read-sessions .ensures .1 .1) (ki .read-values2 .ensures .1 .1) refl s _ _
+      (chain-via _ _ _ s _ _ _
+      (chain-pair _ _ s _ _ _ _ _ (kh .read-counts .ensures .0)
+      (chain-pair _ _ s _ _ _ _ _ (kc .read-classes .ensures .0)
+      (chain-pair _ _ s _ _ _ _ _ (ku .read-values .ensures .0)
+      (chain-pair _ _ s _ _ _ _ _ (kt .read-sessions .ensures .0)
+      (chain-pair _ _ s _ _ _ _ _ (ki .read-values2 .ensures .0) (c .read-formulas .ensures .0)))))))
+      ∙ from-good _ _ refl
+
+  place : c .read-formulas .result .at .pos ≤ 16680
+  place =
+      let ki = c .before in
+      let kt = ki .before in
+      let ku = kt .before in
+      let kc = ku .before .before in
+      let kh = kc .before in
       omega (
         arith,
-        kf .read-formulas .ensures .1,
+        c .read-formulas .ensures .1,
         ki .read-values2 .ensures .1 .0,
         kt .read-sessions .ensures .1 .0,
         ku .read-values .ensures .1 .0,
         kc .read-classes .ensures .1 .1,
         kh .read-counts .ensures .1 .1,
-      ),
+      )
+
+no-rules-requires : tie.Need-no-rules-requires
+no-rules-requires c κs = search needs
+
+returns : tie.Need-returns
+returns c =
+    let k = c .before .before .before .before in (
+      res-any (k .read-formulas .result .at) _ (policyOf (asRead k)) (omega arith) ∙ read k,
+      (beside-bad (k .read-formulas .result .at .number) _ (omega arith) (c .no-rules .ensures), place k),
     )
+
+returns-2 : tie.Need-returns-2
+unfolding asRead
+returns-2 c =
+    let k = c .before .before .before .before .before .before .before .before in
+    (read k, (beside-good (k .read-formulas .result .at .number) _ (omega arith), place k))
 
 pub read-policy-spec : {M : Type 1} → statement M
 read-policy-spec =
@@ -83,4 +130,6 @@ read-policy-spec =
     read-sessions-requires
     read-values-requires-2
     read-formulas-requires
-    returns)
+    no-rules-requires
+    returns
+    returns-2)

@@ -43,11 +43,11 @@ ended c =
 
 returns : tie.Need-returns
 unfolding answerOf beside
-returns c = (sym (ends-refused _ _ _ (ended (c .before .before .before)) (omega arith)), c .no-rules .ensures)
+returns c = (sym (ends-refused _ _ _ (ended (c .before .before .before .before)) (omega arith)), c .no-rules .ensures)
 
 returns-2 : tie.Need-returns-2
 unfolding answerOf beside
-returns-2 c = (sym (ends-read _ _ _ (ended (c .before .before .before)) (c .before .if1 .left)), refl)
+returns-2 c = (sym (ends-read _ _ _ (ended (c .before .before .before)) (c .if1 .left)), refl)
 
 pub read-rules-spec : {M : Type 1} → statement M
 read-rules-spec =

@@ -8,3 +8,4 @@ pub mod Law  -- lawful formats, and each way of building one
 pub mod Round  -- whole files: read, written, refused
 pub mod Gives  -- which numbers judging can give
 pub mod Refuses  -- which numbers reading can give
+pub mod Bounded  -- how many bits reading takes at most

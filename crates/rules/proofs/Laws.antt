@@ -47,6 +47,11 @@ pub refusal-reading : (s : List ℕ) (n : ℕ) → BadAt (readFile policyFormat 
 unfolding reading answered
 refusal-reading s n b = let e = b .is in rw e refl
 
+-- equal results are the same answer
+pub same-reading : (s s′ : List ℕ) → readFile policyFormat s ≡ readFile policyFormat s′ → reading s ≡ reading s′
+unfolding reading
+same-reading s s′ e = ap answered e
+
 pub writing-is : (p : Policy) → writing p ≡ writeFile policyFormat p
 unfolding writing
 writing-is p = refl

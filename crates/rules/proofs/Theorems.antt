@@ -1,7 +1,11 @@
--- The claims of specs/Claims.antt, one line each: the laws behind them are proved once, for every lawful format.
+-- The claims of specs/Claims.antt, one line each: the laws behind them are proved once, for every lawful or bounded format.
 use mathlib.Core.Path.{sym, _∙_}
+use native.Mathlib.Omega.{arith}
+use lib.ListN.{take}
+use Rattle.format.proofs.Bounded.{file-short, file-cut}
 use Rattle.format.proofs.Refuses.{refuses-file}
 use Rattle.format.proofs.Round.{write-read, read-write, write-refused, refused-judged}
+use Rattle.policy.proofs.Bound.{bounded-policy}
 use Rattle.policy.proofs.Laws.{fewest-enough, fewest-least}
 use Rattle.policy.proofs.Numbers.{gives-policy, given-above}
 use Rattle.policy.proofs.ReadNumbers.{Told, told-1, told-3, refuses-policy}
@@ -9,7 +13,8 @@ use Rattle.policy.proofs.PolicyLaw.{lawful-policy}
 use Rattle.policy.specs.File.{policyFormat}
 use Rattle.policy.specs.Rules.{policyOf}
 use Rattle.rules.specs.Claims.{BytesAgain, RulesAgain, ReadingNumbers, WritingNumbers, WritingRefusesAsReading, SizeTakesFewestBits}
-use Rattle.rules.proofs.Laws.{reading-rules, reading-refusal, rules-reading, refusal-reading, writing-is}
+use Rattle.rules.specs.Claims.{largestFile, FrontDecides}
+use Rattle.rules.proofs.Laws.{reading-rules, reading-refusal, rules-reading, refusal-reading, same-reading, writing-is}
 
 pub bytes-again : BytesAgain
 bytes-again s p b e = reading-rules s p e (λ q f. writing-is p ∙ read-write policyFormat lawful-policy p s q b f .0)
@@ -28,3 +33,10 @@ writing-refuses-as-reading r n e f = refusal-reading _ n (write-refused policyFo
 
 pub size-takes-fewest-bits : SizeTakesFewestBits
 size-takes-fewest-bits n = (fewest-enough n, fewest-least n)
+
+pub front-decides : FrontDecides
+front-decides =
+    record {
+      same = λ s k h. same-reading (take k s) s (file-cut policyFormat bounded-policy largestFile (omega arith) s k h);
+      short = λ s p e. reading-rules s p e (λ q f. file-short policyFormat bounded-policy largestFile (omega arith) s p q f);
+    }

@@ -4,7 +4,7 @@ use mathlib.Core.Path.{_≡_}
 use mathlib.Core.Logic.{_⊎_}
 use mathlib.Core.List.{List}
 use Prim.Native.Nat.{ℕ, _^_, _≤_, _<_}
-use lib.ListN.{getD}
+use lib.ListN.{length, getD, take}
 use Rattle.bits.specs.Packed.{packed}
 use Rattle.format.specs.File.{Fit, refused, bytes}
 use Rattle.policy.specs.Policy.{Policy, fewestBits}
@@ -42,3 +42,12 @@ WritingNumbers = (r : Rules) (n : ℕ) → writing (policyOf r) ≡ refused n �
 -- [01:The rule file, "the fewest bits w with 2^w at least n"], for every size together
 abbrev pub SizeTakesFewestBits : Type 0
 SizeTakesFewestBits = (n : ℕ) → (n ≤ 2 ^ fewestBits n) × ((w : ℕ) → n ≤ 2 ^ w → fewestBits n ≤ w)
+
+-- the bytes of the largest file
+abbrev pub largestFile : ℕ
+largestFile = 2069
+
+-- no file that is read has more bytes, and what stands beyond them does not matter: a longer input, cut anywhere behind them, gets the same answer
+pub record FrontDecides : Type 0 where
+  pub same : (s : List ℕ) (k : ℕ) → largestFile < k → reading (take k s) ≡ reading s
+  pub short : (s : List ℕ) (p : Policy) → reading s ≡ rules p → length s ≤ largestFile

@@ -2,26 +2,21 @@
 -- operator; the answers of nodes, one after another.
 use mathlib.Core.Path.{_≡_, refl, sym, ap, ap₂, _∙_}
 use mathlib.Core.Bool.{Bool, true, false, not, _&&_, _||_}
-use mathlib.Core.List.{List, [], _∷_, map}
+use mathlib.Core.List.{List, map}
 use Prim.Native.Nat.{ℕ, zero, suc, _+_, _*_, _/_, _%_, _≤_, _<_}
 use native.Mathlib.Decide.{decLt, ℕ-discrete}
 use native.Mathlib.Omega.{arith}
 use lib.ListN.{length, getD, set, replicate, length-set, List·getD-eq-default}
 use lib.Seq.{getD-set-same, getD-set-other}
-use Rattle.bits.specs.Packed.{tab}
 use Rattle.bits.proofs.Packed.{getD-tab, length-tab}
 use Rattle.lanes.specs.Lanes.{bitOf, laneOf, Lanes}
 use Rattle.lanes.proofs.Laws.{lanes-as, lanes-and, lanes-or, lanes-not}
 use Rattle.lanes.proofs.Bits.{bit-zero}
 use Rattle.lanes.proofs.Words.{four, word-lane}
-use Rattle.policy.specs.Policy.{Lists}
 use Rattle.policy.specs.Nodes.{opOf, firstOf, secondOf}
-use Rattle.formulas.specs.Parts.{Said}
-use Rattle.formulas.specs.declared.Holders.{Holders}
-use Rattle.planes.specs.Put.{withValue}
-use Rattle.planes.specs.Word.{Operands, operandIn, numberIn, comparedIn, nodeIn, laneAt, storedAt, wordsOf, nodeOver}
+use Rattle.planes.specs.Word.{operandIn, numberIn, comparedIn, nodeIn, laneAt, storedAt, wordsOf, nodeOver}
 use Rattle.planes.specs.declared.operand.Operand.{Operand}
-use Rattle.planes.proofs.Nodes.{answer-at, node-false, node-true, node-not, node-and, node-or, node-compares, lanes-start, lanes-next}
+use Rattle.planes.proofs.Nodes.{answer-at, node-false, node-true, node-not, node-and, node-or, node-compares, SaidIn, lanes-start, lanes-next}
 
 -- a comparison of operands that are the same in every word is the same in every word
 pub compared-alike : (op : ℕ) (x y : Operand) → ((w j : ℕ) → j < 64 → numberIn x (64 * w + j) ≡ numberIn x j) → ((w j : ℕ) → j < 64 → numberIn y (64 * w + j) ≡ numberIn y j)
@@ -48,9 +43,9 @@ module _ (t : List ℕ) (l : length t ≡ 256) where
           List·getD-eq-default (wordsOf t w) 0 {n = a} (omega (arith, length-tab (λ a. getD t (4 * a + w) 0) 0 256))
           ∙ sym (List·getD-eq-default t 0 {n = 4 * a + w} (omega arith))
 
-  pub words-lane : (a v : ℕ) → bitOf (getD (wordsOf t (v / 64)) a 0) (v % 64) ≡ laneAt t a v
+  pub words-lane : (a v : ℕ) → getD (map (λ x. bitOf x (v % 64)) (wordsOf t (v / 64))) a false ≡ laneAt t a v
   unfolding laneAt
-  words-lane a v = ap (λ (x : ℕ). bitOf x (v % 64)) (words-at (v / 64) a)
+  words-lane a v = answer-at (wordsOf t (v / 64)) a (v % 64) ∙ ap (λ (x : ℕ). bitOf x (v % 64)) (words-at (v / 64) a)
 
   pub lane-none : (a v : ℕ) → 64 ≤ a → laneAt t a v ≡ false
   unfolding laneAt
@@ -99,31 +94,31 @@ module _ (t : List ℕ) (a : ℕ) (x : List ℕ) where
 module _ (values sizes shifts bits before : List ℕ) (l : length before ≡ 256) (node : ℕ) (r : List ℕ) where
   pub over-false : opOf node ≡ 0 → Lanes (λ v. false) r → Lanes (nodeOver values sizes shifts bits before node) r
   unfolding nodeOver
-  over-false e R = lanes-as _ _ r R (λ v h. sym (node-false values sizes shifts bits (wordsOf before (v / 64)) node (v / 64) (v % 64) e))
+  over-false e R = lanes-as _ _ r R (λ v h. sym (node-false values sizes shifts bits (map (λ x. bitOf x (v % 64)) (wordsOf before (v / 64))) node v e))
 
   pub over-true : opOf node ≡ 1 → Lanes (λ v. true) r → Lanes (nodeOver values sizes shifts bits before node) r
   unfolding nodeOver
-  over-true e R = lanes-as _ _ r R (λ v h. sym (node-true values sizes shifts bits (wordsOf before (v / 64)) node (v / 64) (v % 64) e))
+  over-true e R = lanes-as _ _ r R (λ v h. sym (node-true values sizes shifts bits (map (λ x. bitOf x (v % 64)) (wordsOf before (v / 64))) node v e))
 
   module _ (x : List ℕ) (X : Lanes (laneAt before (firstOf node)) x) where
     pub over-not : opOf node ≡ 2 → Lanes (λ v. not (laneOf x v)) r → Lanes (nodeOver values sizes shifts bits before node) r
     unfolding nodeOver
     over-not e R =
         lanes-as _ _ r (lanes-not _ x r X R)
-        (λ v h. sym (node-not values sizes shifts bits (wordsOf before (v / 64)) node (v / 64) (v % 64) e ∙ ap not (words-lane before l (firstOf node) v)))
+        (λ v h. sym (node-not values sizes shifts bits (map (λ x. bitOf x (v % 64)) (wordsOf before (v / 64))) node v e ∙ ap not (words-lane before l (firstOf node) v)))
 
     module _ (y : List ℕ) (Y : Lanes (laneAt before (secondOf node)) y) where
       pub over-and : opOf node ≡ 3 → Lanes (λ v. laneOf x v && laneOf y v) r → Lanes (nodeOver values sizes shifts bits before node) r
       unfolding nodeOver
       over-and e R =
           lanes-as _ _ r (lanes-and _ _ x y r X Y R)
-          (λ v h. sym (node-and values sizes shifts bits (wordsOf before (v / 64)) node (v / 64) (v % 64) e ∙ ap₂ _&&_ (words-lane before l (firstOf node) v) (words-lane before l (secondOf node) v)))
+          (λ v h. sym (node-and values sizes shifts bits (map (λ x. bitOf x (v % 64)) (wordsOf before (v / 64))) node v e ∙ ap₂ _&&_ (words-lane before l (firstOf node) v) (words-lane before l (secondOf node) v)))
 
       pub over-or : opOf node ≡ 4 → Lanes (λ v. laneOf x v || laneOf y v) r → Lanes (nodeOver values sizes shifts bits before node) r
       unfolding nodeOver
       over-or e R =
           lanes-as _ _ r (lanes-or _ _ x y r X Y R)
-          (λ v h. sym (node-or values sizes shifts bits (wordsOf before (v / 64)) node (v / 64) (v % 64) e ∙ ap₂ _||_ (words-lane before l (firstOf node) v) (words-lane before l (secondOf node) v)))
+          (λ v h. sym (node-or values sizes shifts bits (map (λ x. bitOf x (v % 64)) (wordsOf before (v / 64))) node v e ∙ ap₂ _||_ (words-lane before l (firstOf node) v) (words-lane before l (secondOf node) v)))
 
   pub over-compares : (opOf node ≡ 0 → ⊥) → (opOf node ≡ 1 → ⊥) → (opOf node ≡ 2 → ⊥) → (opOf node ≡ 3 → ⊥) → (opOf node ≡ 4 → ⊥)
       → Lanes (comparedIn (opOf node) (operandIn values sizes shifts bits (firstOf node)) (operandIn values sizes shifts bits (secondOf node))) r
@@ -131,47 +126,50 @@ module _ (values sizes shifts bits before : List ℕ) (l : length before ≡ 256
   unfolding nodeOver
   over-compares a b c d e R =
       lanes-as _ _ r R
-      (λ v h. ap (comparedIn (opOf node) (operandIn values sizes shifts bits (firstOf node)) (operandIn values sizes shifts bits (secondOf node))) (omega arith)
-      ∙ sym (node-compares values sizes shifts bits (wordsOf before (v / 64)) node (v / 64) (v % 64) a b c d e))
+      (λ v h. sym (node-compares values sizes shifts bits (map (λ x. bitOf x (v % 64)) (wordsOf before (v / 64))) node v a b c d e))
 
   -- a bit of word w
-  pub over-word : (w j : ℕ) → w < 4 → j < 64 → Lanes (nodeOver values sizes shifts bits before node) r → bitOf (getD r w 0) j ≡ nodeIn values sizes shifts bits (wordsOf before w) node w j
+  pub over-word : (w j : ℕ) → w < 4 → j < 64 → Lanes (nodeOver values sizes shifts bits before node) r
+      → bitOf (getD r w 0) j ≡ nodeIn values sizes shifts bits (map (λ x. bitOf x j) (wordsOf before w)) node (64 * w + j)
   unfolding nodeOver
   over-word w j hw hj R =
       let a : (64 * w + j) / 64 ≡ w = omega arith in
       let b : (64 * w + j) % 64 ≡ j = omega arith in
-      sym (word-lane r w j hj) ∙ R .each (64 * w + j) (omega arith) ∙ rw (a, b) refl
-
--- answers are known by their places
-said-as : (c : Lists) (v : Holders) (nodes : List ℕ) (n : ℕ) (p q : List Bool) (a b : Bool) → Said c v nodes n p a → ((k : ℕ) → getD q k false ≡ getD p k false) → b ≡ a → Said c v nodes n q b
-said-as c v nodes n p q a b S e d = record { answers = λ k. e k ∙ S .answers k; newest = d ∙ S .newest }
+      sym (word-lane r w j hj) ∙ R .each (64 * w + j) (omega arith)
+      ∙ ap₂ (λ (q k : ℕ). nodeIn values sizes shifts bits (map (λ x. bitOf x k) (wordsOf before q)) node (64 * w + j)) a b
 
 zeros : (n k : ℕ) → _≡_ {A = ℕ} (getD (replicate n 0) k 0) 0
 zeros zero k = refl
 zeros (suc n) zero = refl
 zeros (suc n) (suc k) = zeros n k
 
--- the answers of the first nodes in lane j of word w: none
-pub wide-start : (c : Lists) (v : Holders) (nodes : List ℕ) (w j : ℕ) → Said c v nodes 0 (map (λ (x : ℕ). bitOf x j) (wordsOf (replicate 256 0) w)) (bitOf (getD (replicate 4 0) w 0) j)
-wide-start c v nodes w j =
-    said-as c v nodes 0 _ _ _ _ (lanes-start c v nodes j)
-    (λ k. answer-at (wordsOf (replicate 256 0) w) k j ∙ ap (λ (x : ℕ). bitOf x j) (words-at (replicate 256 0) refl w k ∙ zeros 256 (4 * k + w) ∙ sym (zeros 256 k)) ∙ sym (answer-at (replicate 256 0) k j))
-    (ap (λ (x : ℕ). bitOf x j) (zeros 4 w))
+module _ (values sizes shifts bits nodes : List ℕ) (w j : ℕ) where
+  -- answers are known by their places
+  said-as : (n : ℕ) (p q : List Bool) (a b : Bool) → SaidIn values sizes shifts bits nodes (64 * w + j) n p a → ((k : ℕ) → getD q k false ≡ getD p k false) → b ≡ a
+      → SaidIn values sizes shifts bits nodes (64 * w + j) n q b
+  said-as n p q a b S e d = record { answers = λ k. e k ∙ S .answers k; newest = d ∙ S .newest }
 
--- one more
-pub wide-next : (c : Lists) (h : Holders) (at : ℕ) (nodes values sizes shifts bits before last r : List ℕ) (i w j : ℕ) → Operands c h at values sizes shifts bits → w < 4 → j < 64
-    → Said c (withValue h at (64 * w + j)) nodes i (map (λ (x : ℕ). bitOf x j) (wordsOf before w)) (bitOf (getD last w 0) j) → length before ≡ 256 → i < 64
-    → Lanes (nodeOver values sizes shifts bits before (getD nodes i 0)) r
-    → Said c (withValue h at (64 * w + j)) nodes (i + 1) (map (λ (x : ℕ). bitOf x j) (wordsOf (storedAt before i r) w)) (bitOf (getD r w 0) j)
-wide-next c h at nodes values sizes shifts bits before last r i w j T hw hj S l m R =
-    said-as c (withValue h at (64 * w + j)) nodes (i + 1) _ _ _ _
-    (lanes-next c h at nodes values sizes shifts bits (wordsOf before w) (getD last w 0) (getD r w 0) i w j T hw hj S (omega (arith, words-long before w))
-    (over-word values sizes shifts bits before l (getD nodes i 0) r w j hw hj R))
-    (λ k. answer-at (wordsOf (storedAt before i r) w) k j ∙ ap (λ (x : ℕ). bitOf x j) (words-at (storedAt before i r) (stored-long before i r ∙ l) w k ∙ go k (ℕ-discrete k i)) ∙ sym (answer-at (set (wordsOf before w) i (getD r w 0)) k j))
-    refl
-  where
-    go : (k : ℕ) → Dec (k ≡ i) → getD (storedAt before i r) (4 * k + w) 0 ≡ getD (set (wordsOf before w) i (getD r w 0)) k 0
-    go k (yes e) =
-        ap (λ (z : ℕ). getD (storedAt before i r) (4 * z + w) 0) e ∙ stored-same before i r (omega arith) w hw
-        ∙ sym (ap (λ (z : ℕ). getD (set (wordsOf before w) i (getD r w 0)) z 0) e ∙ getD-set-same (wordsOf before w) i (getD r w 0) 0 (omega (arith, words-long before w)))
-    go k (no n) = stored-apart before i r k w hw n ∙ sym (getD-set-other (wordsOf before w) i k (getD r w 0) 0 n ∙ words-at before l w k)
+  -- the answers of the first nodes in lane j of word w: none
+  pub wide-start : SaidIn values sizes shifts bits nodes (64 * w + j) 0 (map (λ (x : ℕ). bitOf x j) (wordsOf (replicate 256 0) w)) (bitOf (getD (replicate 4 0) w 0) j)
+  wide-start =
+      said-as 0 _ _ _ _ (lanes-start values sizes shifts bits nodes (64 * w + j) j)
+      (λ k. answer-at (wordsOf (replicate 256 0) w) k j ∙ ap (λ (x : ℕ). bitOf x j) (words-at (replicate 256 0) refl w k ∙ zeros 256 (4 * k + w) ∙ sym (zeros 256 k)) ∙ sym (answer-at (replicate 256 0) k j))
+      (ap (λ (x : ℕ). bitOf x j) (zeros 4 w))
+
+  -- one more
+  pub wide-next : (before last r : List ℕ) (i : ℕ) → w < 4 → j < 64
+      → SaidIn values sizes shifts bits nodes (64 * w + j) i (map (λ (x : ℕ). bitOf x j) (wordsOf before w)) (bitOf (getD last w 0) j) → length before ≡ 256 → i < 64
+      → Lanes (nodeOver values sizes shifts bits before (getD nodes i 0)) r
+      → SaidIn values sizes shifts bits nodes (64 * w + j) (i + 1) (map (λ (x : ℕ). bitOf x j) (wordsOf (storedAt before i r) w)) (bitOf (getD r w 0) j)
+  wide-next before last r i hw hj S l m R =
+      said-as (i + 1) _ _ _ _
+      (lanes-next values sizes shifts bits nodes (64 * w + j) (wordsOf before w) (getD last w 0) (getD r w 0) i j S (omega (arith, words-long before w))
+      (over-word values sizes shifts bits before l (getD nodes i 0) r w j hw hj R))
+      (λ k. answer-at (wordsOf (storedAt before i r) w) k j ∙ ap (λ (x : ℕ). bitOf x j) (words-at (storedAt before i r) (stored-long before i r ∙ l) w k ∙ go k (ℕ-discrete k i)) ∙ sym (answer-at (set (wordsOf before w) i (getD r w 0)) k j))
+      refl
+    where
+      go : (k : ℕ) → Dec (k ≡ i) → getD (storedAt before i r) (4 * k + w) 0 ≡ getD (set (wordsOf before w) i (getD r w 0)) k 0
+      go k (yes e) =
+          ap (λ (z : ℕ). getD (storedAt before i r) (4 * z + w) 0) e ∙ stored-same before i r (omega arith) w hw
+          ∙ sym (ap (λ (z : ℕ). getD (set (wordsOf before w) i (getD r w 0)) z 0) e ∙ getD-set-same (wordsOf before w) i (getD r w 0) 0 (omega (arith, words-long before w)))
+      go k (no n) = stored-apart before i r k w hw n ∙ sym (getD-set-other (wordsOf before w) i k (getD r w 0) 0 n ∙ words-at before l w k)

@@ -1,10 +1,11 @@
--- Laws of numbers by their bits. In order: bits of a field; the number of an operand, below and above its field, and
+-- Laws of numbers by their bits. In order: bits of a field; one bit behind a number; the number of an operand, below and above its field, and
 -- where it is the same in every word of 64 lanes; two numbers with one bit more.
 use mathlib.Core.Path.{_≡_, refl, sym, ap, _∙_}
-use mathlib.Core.Bool.{Bool, true, false, not, _&&_, _||_, xor}
+use mathlib.Core.Bool.{Bool, true, false, not, _&&_, _||_, xor, cond}
 use Prim.Native.Nat.{ℕ, zero, suc, _+_, _-_, _*_, _/_, _%_, _^_, _≤_, _<_}
 use native.Mathlib.Decide.{decLt, ℕ-discrete}
 use native.Mathlib.Nat.{mod-lt, div-eq-of-lt}
+use native.Mathlib.Numerals.{one-add}
 use native.Mathlib.Omega.{arith}
 use borrow.Author.Tests.{lt-ltb, le-ltb, eq-eqb, ne-eqb}
 use lib.Dec.{ltb, eqb}
@@ -31,6 +32,20 @@ bit-in x w k h =
 bit-shr : (x s k : ℕ) → bitOf (x / 2 ^ s) k ≡ bitOf x (s + k)
 unfolding bitOf
 bit-shr x s k = ap (λ (z : ℕ). eqb (z % 2) 1) (shr-shr x s k)
+
+-- a number with one bit behind it: that bit, and the others
+pub bit-first : (n : ℕ) (b : Bool) → bitOf (2 * n + cond b 1 0) 0 ≡ b
+unfolding bitOf
+bit-first n true = let e : (2 * n + 1) / 2 ^ 0 % 2 ≡ 1 = omega arith in rw e refl
+bit-first n false = let e : (2 * n + 0) / 2 ^ 0 % 2 ≡ 0 = omega arith in rw e refl
+
+pub bit-later : (n : ℕ) (b : Bool) (k : ℕ) → bitOf (2 * n + cond b 1 0) (suc k) ≡ bitOf n k
+bit-later n b k =
+    ap (bitOf (2 * n + cond b 1 0)) (sym (one-add k)) ∙ sym (bit-shr (2 * n + cond b 1 0) 1 k) ∙ ap (λ (z : ℕ). bitOf z k) (half b)
+  where
+    half : (b : Bool) → (2 * n + cond b 1 0) / 2 ^ 1 ≡ n
+    half true = omega arith
+    half false = omega arith
 
 module _ (o : Operand) (v : ℕ) where
   lo : v / 2 ^ o .shift % 2 ^ o .bits < 2 ^ o .bits

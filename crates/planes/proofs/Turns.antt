@@ -3,7 +3,7 @@
 use mathlib.Core.Path.{_≡_, refl, sym, ap, ap₂, _∙_}
 use mathlib.Core.Bool.{Bool, true, false, not, _&&_, _||_, xor}
 use mathlib.Core.List.{List}
-use Prim.Native.Nat.{ℕ, _+_, _-_, _/_, _%_, _^_, _≤_, _<_}
+use Prim.Native.Nat.{ℕ, _+_, _-_, _/_, _%_, _^_, _<_}
 use native.Mathlib.Decide.{decLt, ℕ-discrete}
 use native.Mathlib.Nat.{zero-div}
 use native.Mathlib.Numerals.{add-one}
@@ -17,6 +17,7 @@ use Rattle.lanes.specs.Lanes.{bitOf}
 use Rattle.lanes.proofs.Bits.{bit-and, bit-or, bit-xor, bit-not, bit-zero}
 use Rattle.planes.specs.Word.{Told}
 use Rattle.planes.proofs.Numbers.{same-more, below-more}
+use Rattle.planes.proofs.Words.{told-as}
 
 all-more : (f : ℕ → Bool) (k : ℕ) → allBelow f (k + 1) ≡ allBelow f k && f k
 unfolding allBelow
@@ -37,32 +38,29 @@ xor-false false = refl
 
 module _ (t : List ℕ) where
   pub told-and : (f g : ℕ → Bool) (x y : ℕ) → Told t f x → Told t g y → Told t (λ v. f v && g v) (bitAnd x y)
-  told-and f g x y F G w p = record { each = λ j h. bit-and x y j ∙ ap₂ _&&_ (F w p .each j h) (G w p .each j h) }
+  told-and f g x y F G = record { each = λ j h. bit-and x y j ∙ ap₂ _&&_ (F .each j h) (G .each j h) }
 
   pub told-or : (f g : ℕ → Bool) (x y : ℕ) → Told t f x → Told t g y → Told t (λ v. f v || g v) (bitOr x y)
-  told-or f g x y F G w p = record { each = λ j h. bit-or x y j ∙ ap₂ _||_ (F w p .each j h) (G w p .each j h) }
+  told-or f g x y F G = record { each = λ j h. bit-or x y j ∙ ap₂ _||_ (F .each j h) (G .each j h) }
 
   pub told-not : (f : ℕ → Bool) (x : ℕ) → Told t f x → Told t (λ v. not (f v)) (bitXor x 18446744073709551615)
-  told-not f x F w p = record { each = λ j h. bit-not x j h ∙ ap not (F w p .each j h) }
+  told-not f x F = record { each = λ j h. bit-not x j h ∙ ap not (F .each j h) }
 
   told-xor : (f g : ℕ → Bool) (x y : ℕ) → Told t f x → Told t g y → Told t (λ v. xor (f v) (g v)) (bitXor x y)
-  told-xor f g x y F G w p = record { each = λ j h. bit-xor x y j ∙ ap₂ xor (F w p .each j h) (G w p .each j h) }
-
-  told-is : (f g : ℕ → Bool) (x : ℕ) → Told t f x → ((v : ℕ) → f v ≡ g v) → Told t g x
-  told-is f g x F e w p = record { each = λ j h. F w p .each j h ∙ e _ }
+  told-xor f g x y F G = record { each = λ j h. bit-xor x y j ∙ ap₂ xor (F .each j h) (G .each j h) }
 
   module _ (X Y : ℕ → ℕ) (m k below same p q : ℕ) (e : m ≡ k + 1)
       (B : Told t (λ v. ltb (X v / 2 ^ m) (Y v / 2 ^ m)) below) (S : Told t (λ v. eqb (X v / 2 ^ m) (Y v / 2 ^ m)) same)
       (P : Told t (λ v. bitOf (X v) k) p) (Q : Told t (λ v. bitOf (Y v) k) q) where
     pub below-turn : Told t (λ v. ltb (X v / 2 ^ k) (Y v / 2 ^ k)) (bitOr below (bitAnd same (bitAnd (bitXor p 18446744073709551615) q)))
-    below-turn = told-is _ _ _ (told-or _ _ _ _ B (told-and _ _ _ _ S (told-and _ _ _ _ (told-not _ _ P) Q))) (λ v. sym (below-more (X v) (Y v) m k e))
+    below-turn = told-as t _ _ _ (told-or _ _ _ _ B (told-and _ _ _ _ S (told-and _ _ _ _ (told-not _ _ P) Q))) (λ v. sym (below-more (X v) (Y v) m k e))
 
     pub same-turn : Told t (λ v. eqb (X v / 2 ^ k) (Y v / 2 ^ k)) (bitAnd same (bitXor (bitXor p q) 18446744073709551615))
-    same-turn = told-is _ _ _ (told-and _ _ _ _ S (told-not _ _ (told-xor _ _ _ _ P Q))) (λ v. sym (same-more (X v) (Y v) m k e))
+    same-turn = told-as t _ _ _ (told-and _ _ _ _ S (told-not _ _ (told-xor _ _ _ _ P Q))) (λ v. sym (same-more (X v) (Y v) m k e))
 
   pub narrow-turn : (m k r p : ℕ) → m ≡ k + 1 → Told t (λ v. eqb (v / 2 ^ m) 0) r → Told t (λ v. bitOf v k) p
       → Told t (λ v. eqb (v / 2 ^ k) 0) (bitAnd r (bitXor p 18446744073709551615))
-  narrow-turn m k r p e R P = told-is _ _ _ (told-and _ _ _ _ R (told-not _ _ P)) (λ v. sym (less v))
+  narrow-turn m k r p e R P = told-as t _ _ _ (told-and _ _ _ _ R (told-not _ _ P)) (λ v. sym (less v))
     where
       less : (v : ℕ) → eqb (v / 2 ^ k) 0 ≡ eqb (v / 2 ^ m) 0 && not (bitOf v k)
       less v =
@@ -72,7 +70,7 @@ module _ (t : List ℕ) where
   -- a number below i that is a member, or i where i is one
   pub member-turn : (X : ℕ → ℕ) (S : ℕ → ℕ → Bool) (i r s h : ℕ) → Told t (λ v. ltb (X v) i && S v (X v)) r → Told t (λ v. eqb (X v) i) s → Told t (λ v. S v i) h
       → Told t (λ v. ltb (X v) (i + 1) && S v (X v)) (bitOr r (bitAnd s h))
-  member-turn X S i r s h R E H = told-is _ _ _ (told-or _ _ _ _ R (told-and _ _ _ _ E H)) (λ v. go v (decLt (X v) i) (ℕ-discrete (X v) i))
+  member-turn X S i r s h R E H = told-as t _ _ _ (told-or _ _ _ _ R (told-and _ _ _ _ E H)) (λ v. go v (decLt (X v) i) (ℕ-discrete (X v) i))
     where
       go : (v : ℕ) → Dec (X v < i) → Dec (X v ≡ i) → (ltb (X v) i && S v (X v)) || (eqb (X v) i && S v i) ≡ ltb (X v) (i + 1) && S v (X v)
       go v (yes l) d = rw (lt-ltb (X v) i l, lt-ltb (X v) (i + 1) (omega arith), ne-eqb (X v) i (λ z. omega arith)) (or-false (S v (X v)))
@@ -82,12 +80,12 @@ module _ (t : List ℕ) where
   pub subset-turn : (F G : ℕ → ℕ → Bool) (i r p q : ℕ) → Told t (λ v. allBelow (λ a. not (F v a) || G v a) i) r → Told t (λ v. F v i) p → Told t (λ v. G v i) q
       → Told t (λ v. allBelow (λ a. not (F v a) || G v a) (i + 1)) (bitAnd r (bitOr (bitXor p 18446744073709551615) q))
   subset-turn F G i r p q R P Q =
-      told-is _ _ _ (told-and _ _ _ _ R (told-or _ _ _ _ (told-not _ _ P) Q)) (λ v. sym (all-more (λ a. not (F v a) || G v a) i))
+      told-as t _ _ _ (told-and _ _ _ _ R (told-or _ _ _ _ (told-not _ _ P) Q)) (λ v. sym (all-more (λ a. not (F v a) || G v a) i))
 
   -- what a set has of its members
   pub has-in : (X : ℕ → ℕ) (n i m x : ℕ) → i < sizeOf n → m ≡ sizeOf n → Told t (λ v. bitOf (X v) (m - 1 - i)) x → Told t (λ v. inSet n (X v) i) x
   unfolding inSet bitOf
-  has-in X n i m x l e B = told-is _ _ _ B (λ v. ap (λ (z : ℕ). eqb (X v / 2 ^ (z - 1 - i) % 2) 1) e ∙ sym (ap (λ (b : Bool). b && eqb (X v / 2 ^ (sizeOf n - 1 - i) % 2) 1) (lt-ltb i (sizeOf n) l)))
+  has-in X n i m x l e B = told-as t _ _ _ B (λ v. ap (λ (z : ℕ). eqb (X v / 2 ^ (z - 1 - i) % 2) 1) e ∙ sym (ap (λ (b : Bool). b && eqb (X v / 2 ^ (sizeOf n - 1 - i) % 2) 1) (lt-ltb i (sizeOf n) l)))
 
 -- a member is one of the first eight numbers
 pub member-all : (n y x : ℕ) → ltb x 8 && inSet n y x ≡ inSet n y x

@@ -1,16 +1,14 @@
 // Formulas asked of a set of values of one holder at once: 64 values in a word, one bit a value.
 ghost use mathlib.Core.Path.{_≡_};
 ghost use mathlib.Core.Bool.{_&&_};
-ghost use Prim.Native.Nat.{ℕ, _+_, _*_, _<_};
+ghost use Prim.Native.Nat.{_%_, _<_};
 ghost use Rattle.lanes.specs.Lanes.{bitOf, laneOf, Lanes};
-ghost use Rattle.policy.specs.Policy.{Lists};
 ghost use Rattle.policy.specs.Nodes.{ofHolder};
 ghost use Rattle.policy.specs.Rules.{attrsOf, listsOf, nodesOf};
 ghost use Rattle.formulas.specs.Meaning.{holds};
-ghost use Rattle.formulas.specs.declared.Holders.{Holders};
 ghost use Rattle.lists.specs.Lists.{listed as listedIn};
 ghost use Rattle.planes.specs.Put.{withValue, putAt};
-ghost use Rattle.planes.specs.Word.{Operands};
+ghost use Rattle.planes.specs.Word.{Word, heldIn};
 
 mod listed;
 mod node;
@@ -94,7 +92,7 @@ fn asked<'a, 'b>(
     w: usize,
 ) -> u64
     requires { ⌜ w < 4 ⌝ }
-    ensures { λ r. ⌜ ((c : Lists) (h : Holders) (at : ℕ) → Operands c h at (now (values .entry)) (now (sizes .entry)) (now (shifts .entry)) (now (bits .entry)) → (j : ℕ) → j < 64 → bitOf r j ≡ bitOf among j && holds c (withValue h at (64 * w + j)) (nodesOf (now (nodes .entry)) f n)) ⌝ }
+    ensures { λ r. ⌜ Word (λ v. (bitOf among (v % 64) && heldIn (now (values .entry)) (now (sizes .entry)) (now (shifts .entry)) (now (bits .entry)) (nodesOf (now (nodes .entry)) f n) v)) w r ⌝ }
 {
     if among == 0 {
         return 0;
@@ -114,7 +112,7 @@ fn each_word<'a, 'b>(
     n: u8,
     among: [u64; 4],
 ) -> [u64; 4]
-    ensures { λ r. ⌜ ((c : Lists) (h : Holders) (at : ℕ) → Operands c h at (now (values .entry)) (now (sizes .entry)) (now (shifts .entry)) (now (bits .entry)) → Lanes (λ v. (laneOf among v && holds c (withValue h at v) (nodesOf (now (nodes .entry)) f n))) r) ⌝ }
+    ensures { λ r. ⌜ Lanes (λ v. (laneOf among v && heldIn (now (values .entry)) (now (sizes .entry)) (now (shifts .entry)) (now (bits .entry)) (nodesOf (now (nodes .entry)) f n) v)) r ⌝ }
 {
     let mut r: [u64; 4] = [0; 4];
     for w in 0..4 {
@@ -145,7 +143,7 @@ fn answered<'a, 'b>(
     n: u8,
     among: [u64; 4],
 ) -> [u64; 4]
-    ensures { λ r. ⌜ ((c : Lists) (h : Holders) (at : ℕ) → Operands c h at (now (values .entry)) (now (sizes .entry)) (now (shifts .entry)) (now (bits .entry)) → Lanes (λ v. (laneOf among v && holds c (withValue h at v) (nodesOf (now (nodes .entry)) f n))) r) ⌝ }
+    ensures { λ r. ⌜ Lanes (λ v. (laneOf among v && heldIn (now (values .entry)) (now (sizes .entry)) (now (shifts .entry)) (now (bits .entry)) (nodesOf (now (nodes .entry)) f n) v)) r ⌝ }
 {
     if n <= 64 {
         if most_words(among) {

@@ -2,6 +2,7 @@
 ghost use mathlib.Core.Path.{_≡_};
 ghost use Prim.Native.Nat.{_/_, _%_, _^_, _<_};
 ghost use lib.Dec.{ltb, eqb};
+ghost use lib.ListN.{length};
 ghost use Rattle.policy.specs.Policy.{Attr, bitsFor, codes, width};
 ghost use Rattle.policy.specs.Rules.{attrsOf};
 ghost use Rattle.lists.specs.Lists.{listed};
@@ -17,6 +18,7 @@ use policy::shape::byte_at;
 
 // Where the bits of an attribute's value, which stand left of so many others, are a code of it.
 fn coded(planes: &[u64], kind: u8, size: u8, right: usize, own: u8) -> u64
+    requires { ⌜ length (now planes) ≡ 8 ⌝ }
     requires { ⌜ own ≡ bitsFor record { kind = kind; size = size } ⌝ }
     ensures { λ r. ⌜ Told (now (planes .entry)) (λ v. ltb (v / 2 ^ right % 2 ^ own) (codes record { kind = kind; size = size })) r ⌝ }
 {
@@ -46,6 +48,7 @@ fn coded(planes: &[u64], kind: u8, size: u8, right: usize, own: u8) -> u64
 
 // Where the number has no bit from bit n on.
 fn narrow(planes: &[u64], n: usize) -> u64
+    requires { ⌜ length (now planes) ≡ 8 ⌝ }
     ensures { λ r. ⌜ Told (now (planes .entry)) (λ v. eqb (v / 2 ^ n) 0) r ⌝ }
 {
     let mut r = 0xFFFF_FFFF_FFFF_FFFF;

@@ -1,13 +1,10 @@
 // Nodes in 64 lanes at once.
 ghost use mathlib.Core.Path.{_≡_};
-ghost use Prim.Native.Nat.{ℕ, _+_, _*_, _<_};
+ghost use mathlib.Core.List.{map};
+ghost use Prim.Native.Nat.{ℕ, _<_};
 ghost use Rattle.lanes.specs.Lanes.{bitOf};
-ghost use Rattle.policy.specs.Policy.{Lists};
 ghost use Rattle.policy.specs.Rules.{nodesOf};
-ghost use Rattle.formulas.specs.Meaning.{holds};
-ghost use Rattle.formulas.specs.declared.Holders.{Holders};
-ghost use Rattle.planes.specs.Put.{withValue};
-ghost use Rattle.planes.specs.Word.{Word, Planes, Told, Operands, operandIn, comparedIn, nodeIn};
+ghost use Rattle.planes.specs.Word.{laneNumber, Told, operandIn, comparedIn, nodeIn, heldIn};
 use super::operand::Operand;
 use super::operand::order;
 use super::set::member;
@@ -86,7 +83,7 @@ fn says(
     before: &[u64],
     node: u32,
 ) -> u64
-    ensures { λ r. ⌜ ((w : ℕ) → Planes w (now (planes .entry)) → (j : ℕ) → j < 64 → bitOf r j ≡ nodeIn (now (values .entry)) (now (sizes .entry)) (now (shifts .entry)) (now (bits .entry)) (now (before .entry)) node w j) ⌝ }
+    ensures { λ r. ⌜ ((j : ℕ) → j < 64 → bitOf r j ≡ nodeIn (now (values .entry)) (now (sizes .entry)) (now (shifts .entry)) (now (bits .entry)) (map (λ x. bitOf x j) (now (before .entry))) node (laneNumber (now (planes .entry)) j)) ⌝ }
 {
     let op = node / 65536;
     let a = (node / 256 % 256) as usize;
@@ -106,7 +103,7 @@ fn says(
     }
 }
 
-// Where formula f holds, its n nodes standing among the lent ones as in rules, gone through in order.
+// Where formula f holds by the tables of all operands, its n nodes standing among the lent ones as in rules, gone through in order.
 pub(super) fn word(
     planes: &[u64],
     values: &[u8],
@@ -117,7 +114,7 @@ pub(super) fn word(
     f: usize,
     n: u8,
 ) -> u64
-    ensures { λ r. ⌜ ((c : Lists) (h : Holders) (at : ℕ) → Operands c h at (now (values .entry)) (now (sizes .entry)) (now (shifts .entry)) (now (bits .entry)) → Told (now (planes .entry)) (λ v. holds c (withValue h at v) (nodesOf (now (nodes .entry)) f n)) r) ⌝ }
+    ensures { λ r. ⌜ Told (now (planes .entry)) (heldIn (now (values .entry)) (now (sizes .entry)) (now (shifts .entry)) (now (bits .entry)) (nodesOf (now (nodes .entry)) f n)) r ⌝ }
 {
     let mut before: [u64; 256] = [0; 256];
     let mut last: u64 = 0;

@@ -4,12 +4,8 @@ ghost use mathlib.Core.Bool.{true};
 ghost use Prim.Native.Nat.{ℕ, _+_, _*_, _≤_, _<_};
 ghost use lib.ListN.{length};
 ghost use Rattle.lanes.specs.Lanes.{Lanes};
-ghost use Rattle.policy.specs.Policy.{Lists};
 ghost use Rattle.policy.specs.Rules.{nodesOf};
-ghost use Rattle.formulas.specs.Meaning.{holds};
-ghost use Rattle.formulas.specs.declared.Holders.{Holders};
-ghost use Rattle.planes.specs.Put.{withValue};
-ghost use Rattle.planes.specs.Word.{Word, Operands, numberIn, comparedIn, laneAt, storedAt, nodeOver};
+ghost use Rattle.planes.specs.Word.{Word, numberIn, comparedIn, laneAt, storedAt, nodeOver, heldIn};
 use super::node::compare;
 use super::node::operand_at;
 use super::operand::Operand;
@@ -103,7 +99,7 @@ fn says(
     }
 }
 
-// Where formula f holds, its n nodes standing among the lent ones as in rules, gone through in order.
+// Where formula f holds by the tables of all operands, its n nodes standing among the lent ones as in rules, gone through in order.
 pub(super) fn held(
     values: &[u8],
     sizes: &[u8],
@@ -114,7 +110,7 @@ pub(super) fn held(
     n: u8,
 ) -> [u64; 4]
     requires { ⌜ n ≤ 64 ⌝ }
-    ensures { λ r. ⌜ ((c : Lists) (h : Holders) (at : ℕ) → Operands c h at (now (values .entry)) (now (sizes .entry)) (now (shifts .entry)) (now (bits .entry)) → Lanes (λ v. holds c (withValue h at v) (nodesOf (now (nodes .entry)) f n)) r) ⌝ }
+    ensures { λ r. ⌜ Lanes (heldIn (now (values .entry)) (now (sizes .entry)) (now (shifts .entry)) (now (bits .entry)) (nodesOf (now (nodes .entry)) f n)) r ⌝ }
 {
     let mut before: [u64; 256] = [0; 256];
     let mut last: [u64; 4] = [0; 4];

@@ -1,5 +1,5 @@
 -- `planes::answered` meets its contract: both ways answer the same.
-use mathlib.Core.Path.{_≡_, ap, _∙_}
+use mathlib.Core.Path.{ap, _∙_}
 use mathlib.Core.Bool.{Bool, _&&_}
 use Rattle.lanes.specs.Lanes.{laneOf}
 use borrow.Author.Needs.{needs}
@@ -16,10 +16,10 @@ and-requires : tie.Need-and-requires
 and-requires c κs = search needs
 
 returns : tie.Need-returns
-returns c l h at T =
+returns c =
     let A = c .and .ensures in
     let a = c .before .before .before .before .before .before .before .before .before .before .args in
-    record { long = A .long; each = λ v m. A .each v m ∙ ap (λ (b : Bool). laneOf (a .among) v && b) (c .before .held .ensures l h at T .each v m) }
+    record { long = A .long; each = λ v m. A .each v m ∙ ap (λ (b : Bool). laneOf (a .among) v && b) (c .before .held .ensures .each v m) }
 
 each-word-requires : tie.Need-each-word-requires
 each-word-requires c κs = search needs

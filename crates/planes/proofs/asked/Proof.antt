@@ -1,21 +1,25 @@
 -- `planes::asked` meets its contract: where no lane is asked about there is none to answer.
-use mathlib.Core.Path.{_≡_, sym, ap, _∙_}
+use mathlib.Core.Path.{sym, ap, ap₂, _∙_}
 use mathlib.Core.Bool.{Bool, _&&_}
-use Prim.Native.Nat.{ℕ, _+_, _*_}
+use Prim.Native.Nat.{ℕ, _+_, _*_, _%_}
+use native.Mathlib.Omega.{arith}
 use Rattle.lanes.specs.Lanes.{bitOf}
 use Rattle.lanes.proofs.Bits.{bit-and, bit-zero}
 use Rattle.policy.specs.Rules.{nodesOf}
-use Rattle.formulas.specs.Meaning.{holds}
-use Rattle.planes.specs.Put.{withValue}
+use Rattle.planes.specs.Word.{heldIn}
+use Rattle.planes.proofs.Words.{told-word}
 use borrow.Author.Needs.{needs}
 use Rattle.planes.proofs.asked.Statement.{statement}
 use Rattle.planes.proofs.asked.Tie as tie
 
 returns : tie.Need-returns
-returns c l h at T j m =
+returns c =
     let a = c .before .before .args in
-    bit-zero j
-    ∙ sym (ap (λ (t : Bool). t && holds l (withValue h at (64 * a .w + j)) (nodesOf (a .nodes .now) (a .f) (a .n))) (ap (λ (x : ℕ). bitOf x j) (c .if1 .taken) ∙ bit-zero j))
+    record {
+      each = λ j m.
+          bit-zero j
+          ∙ sym (ap (λ (t : Bool). t && heldIn (a .values .now) (a .sizes .now) (a .shifts .now) (a .bits .now) (nodesOf (a .nodes .now) (a .f) (a .n)) (64 * a .w + j)) (ap (λ (x : ℕ). bitOf x ((64 * a .w + j) % 64)) (c .if1 .taken) ∙ bit-zero ((64 * a .w + j) % 64)));
+    }
 
 planes-of-requires : tie.Need-planes-of-requires
 planes-of-requires c κs = search needs
@@ -27,9 +31,14 @@ word-requires : tie.Need-word-requires
 word-requires c κs = search needs
 
 returns-2 : tie.Need-returns-2
-returns-2 c l h at T j m =
+returns-2 c =
     let a = c .before .before .before .before .before .before .before .before .before .args in
-    bit-and (a .among) (c .word .result) j ∙ ap (λ (t : Bool). bitOf (a .among) j && t) (c .word .ensures l h at T (a .w) (c .before .before .before .before .before .before .planes-of .ensures) .each j m)
+    let held = told-word _ _ (a .w) _ (c .before .before .before .before .before .before .planes-of .ensures) (c .word .ensures) in
+    record {
+      each = λ j m.
+          bit-and (a .among) (c .word .result) j
+          ∙ ap₂ _&&_ (ap (bitOf (a .among)) (omega arith)) (held .each j m);
+    }
 
 pub asked-spec : {M : Type 1} → statement M
 asked-spec =

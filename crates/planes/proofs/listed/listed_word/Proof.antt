@@ -1,20 +1,18 @@
 -- `planes::listed::listed_word` meets its contract. The loop's invariant: what the attributes from k on take of the number is in their lists, and
 -- right is their width. The measure is k.
-use mathlib.Core.Path.{_≡_, refl, sym, ap, ap₂, _∙_}
-use mathlib.Core.Bool.{Bool, _&&_}
-use Prim.Native.Nat.{ℕ, _+_, _*_, _-_, _/_, _%_, _^_, _≤_, _<_}
+use mathlib.Core.Path.{_≡_, sym, ap, ap₂, _∙_}
+use mathlib.Core.Bool.{_&&_}
+use Prim.Native.Nat.{ℕ, _+_, _*_, _-_, _/_, _%_, _^_, _≤_}
 use native.Mathlib.Omega.{arith}
-use lib.Bits.{bitAnd}
 use lib.ListN.{drop}
 use lib.Dec.{ltb, eqb}
 use Rattle.policy.specs.Policy.{Attr, bitsFor, codes, width}
 use Rattle.policy.specs.Rules.{attrAt, attrsOf}
-use Rattle.policy.proofs.Laws.{attrs-length}
 use Rattle.lists.specs.Lists.{inLists}
 use Rattle.lists.proofs.Laws.{later-width}
 use Rattle.formulas.proofs.TableLaws.{later-none}
-use Rattle.planes.specs.Word.{Told, Word}
-use Rattle.planes.proofs.Words.{told-as, word-as, word-all}
+use Rattle.planes.specs.Word.{Told}
+use Rattle.planes.proofs.Words.{word-as, told-as, told-all, told-word}
 use Rattle.planes.proofs.Turns.{told-and}
 use Rattle.planes.proofs.Values.{in-start, in-more, in-whole}
 use borrow.Author.Needs.{needs}
@@ -38,7 +36,7 @@ cast-k c = search needs
 loop-holds : tie.Need-loop-holds Inv-loop μ-loop
 loop-holds c =
     let a = c .before .before .before .before .args in
-    (search needs, search needs, search needs, sym (later-none (a .class)), λ w p. word-as _ _ w _ (p .below) (word-all w) (λ v l. sym (in-start (a .class) v)))
+    (search needs, search needs, search needs, sym (later-none (a .class)), told-as _ _ _ _ (told-all _) (λ v. sym (in-start (a .class) v)))
 
 sub-k : tie.Need-sub-k Inv-loop μ-loop
 sub-k c = search needs
@@ -90,7 +88,7 @@ loop-again c =
       search needs,
       omega (arith, later-width (a .class) k (omega arith)),
       told-as _ _ _ _ (told-and _ _ _ _ _ (c .coded .ensures) (t .inv .4))
-          (λ v m.
+          (λ v.
           ap₂ _&&_ (ap (λ (x : Attr). ltb (v / 2 ^ t .right % 2 ^ b .bits-for .result) (codes x)) (sym code)) (ap (λ (n : ℕ). inLists (drop n l) (v % 2 ^ t .right)) e)
           ∙ in-more (a .class) k v (t .right) (b .bits-for .result) (omega arith) later),
     )
@@ -111,7 +109,7 @@ returns c =
     let e : t .k ≡ 0 = omega arith in
     let r : t .right ≡ width l = t .inv .3 ∙ ap (λ (n : ℕ). width (drop n l)) e in
     word-as _ _ (a .w) _ (s .pre)
-    (told-and _ _ _ _ _ (c .narrow .ensures) (t .inv .4) (a .w) (q .planes-of .ensures))
+    (told-word _ _ _ _ (q .planes-of .ensures) (told-and _ _ _ _ _ (c .narrow .ensures) (t .inv .4)))
     (λ v m. ap₂ (λ (n k : ℕ). eqb (v / 2 ^ n) 0 && inLists (drop k l) (v % 2 ^ n)) r e ∙ in-whole l v m)
 
 pub listed-word-spec : {M : Type 1} → statement M

@@ -7,8 +7,8 @@ use native.Mathlib.Omega.{arith}
 use borrow.Author.Tests.{eq-eqb}
 use lib.Dec.{eqb}
 use lib.Pow.{pow-mono}
-use Rattle.planes.specs.Word.{Told, Planes, Word}
-use Rattle.planes.proofs.Words.{told-as, word-as, word-all}
+use Rattle.planes.specs.Word.{Told}
+use Rattle.planes.proofs.Words.{told-byte, told-all, told-plane}
 use Rattle.planes.proofs.Turns.{narrow-turn}
 use Rattle.lanes.specs.Lanes.{bitOf}
 use borrow.Author.Needs.{needs}
@@ -22,7 +22,9 @@ abbrev μ-loop : tie.MeasureT-loop
 μ-loop planes n r₀ k₀ r k = k
 
 loop-holds : tie.Need-loop-holds Inv-loop μ-loop
-loop-holds c = (search needs, λ h. refl, λ h. h, λ w p. word-as _ _ w _ (p .below) (word-all w) (λ v l. sym (eq-eqb (v / 2 ^ 8) 0 (omega arith))))
+loop-holds c =
+    let a = c .before .args in
+    (search needs, λ h. refl, λ h. h, told-byte (a .planes .now) _ _ _ (c .before .pre) (told-all (a .planes .now)) (λ v l. sym (eq-eqb (v / 2 ^ 8) 0 (omega arith))))
 
 sub-k : tie.Need-sub-k Inv-loop μ-loop
 sub-k c = search needs
@@ -39,7 +41,7 @@ loop-again c =
     let a = c .before .before .before .before .args in
     let k = t .k - 1 in
     let e : t .k ≡ k + 1 = omega arith in
-    let plane : Told (a .planes .now) (λ v. bitOf v k) (c .at .result) = λ w p. record { each = λ j h. ap (λ (z : ℕ). bitOf z j) (c .at .ensures) ∙ p .each k .each j h } in (
+    let plane : Told (a .planes .now) (λ v. bitOf v k) (c .at .result) = told-plane (a .planes .now) k (c .at .result) (c .at .ensures) in (
       search needs,
       λ h. absurd (omega arith),
       λ h. omega arith,
@@ -62,7 +64,7 @@ returns : tie.Need-returns Inv-loop μ-loop
 returns c =
     let t = c .before .loop in
     let a = c .before .before .before .args in
-    told-as (a .planes .now) _ _ _ (t .inv .3) (λ v l. go c v l (decLt 8 (a .n)))
+    told-byte (a .planes .now) _ _ _ (c .before .before .before .pre) (t .inv .3) (λ v l. go c v l (decLt 8 (a .n)))
 
 pub narrow-spec : {M : Type 1} → statement M
 narrow-spec =

@@ -1,6 +1,6 @@
 -- `planes::node::compare` meets its contract: operands that no lane changes have the same numbers in all lanes.
 use mathlib.Core.Path.{sym, _∙_}
-use Rattle.planes.proofs.Words.{word-as}
+use Rattle.planes.proofs.Words.{told-as, told-whole}
 use Rattle.planes.proofs.Nodes.{compared-plain}
 use borrow.Author.Needs.{needs}
 use Rattle.planes.proofs.node.compare.Statement.{statement}
@@ -25,10 +25,10 @@ whole-requires : tie.Need-whole-requires
 whole-requires c κs = search needs
 
 returns : tie.Need-returns
-returns c w p =
+returns c =
     let q = c .before .before .before .before .before .before in
     let a = q .before .before .before .before .before .args in
-    word-as _ _ w _ (p .below) (c .whole .ensures w) (λ v h. c .before .compare .ensures ∙ sym (compared-plain (a .op) (a .x) (a .y) v (q .before .before .if1 .taken) (q .if2 .taken)))
+    told-as (a .planes .now) _ _ _ (told-whole (a .planes .now) _ _ (c .whole .ensures)) (λ v. c .before .compare .ensures ∙ sym (compared-plain (a .op) (a .x) (a .y) v (q .before .before .if1 .taken) (q .if2 .taken)))
 
 by-bits-requires : tie.Need-by-bits-requires
 by-bits-requires c κs = search needs

@@ -1,10 +1,8 @@
 -- `planes::operand::bit` meets its contract: a bit of the field is one of the lane's number, any other is the same in all lanes.
-use mathlib.Core.Path.{_≡_, sym, ap, _∙_}
-use Prim.Native.Nat.{ℕ}
+use mathlib.Core.Path.{sym, _∙_}
 use native.Mathlib.Omega.{arith}
-use Rattle.planes.specs.Word.{Word}
 use Rattle.planes.proofs.Numbers.{bit-out, number-low, number-bit}
-use Rattle.planes.proofs.Words.{word-as, word-none}
+use Rattle.planes.proofs.Words.{told-as, told-none, told-whole, told-plane}
 use Rattle.lanes.specs.Lanes.{bitOf}
 use borrow.Author.Needs.{needs}
 use Rattle.planes.proofs.operand.bit.Statement.{statement}
@@ -23,10 +21,10 @@ at-requires : tie.Need-at-requires
 at-requires c κs = search needs
 
 returns : tie.Need-returns
-returns c w p =
+returns c =
     let a = c .before .before .before .before .before .args in
-    let i = c .before .before .if1 .taken in
-    record { each = λ j h. ap (λ (z : ℕ). bitOf z j) (c .at .ensures) ∙ p .each _ .each j h ∙ sym (number-low (a .o) _ (a .k) i) }
+    let t = a .planes .now in
+    told-as t _ _ _ (told-plane t _ _ (c .at .ensures)) (λ v. sym (number-low (a .o) v (a .k) (c .before .before .if1 .taken)))
 
 cast-whole : tie.Need-cast-whole
 cast-whole c = search needs
@@ -39,14 +37,16 @@ whole-requires c κs = search needs
 
 returns-2 : tie.Need-returns-2
 unfolding bitOf
-returns-2 c w p =
+returns-2 c =
     let a = c .before .before .before .before .before .before .args in
-    word-as _ _ w _ (p .below) (c .whole .ensures w) (λ v l. sym (number-bit (a .o) v (a .k) (c .before .before .before .if1 .left)))
+    let t = a .planes .now in
+    told-as t _ _ _ (told-whole t _ _ (c .whole .ensures)) (λ v. sym (number-bit (a .o) v (a .k) (c .before .before .before .if1 .left)))
 
 returns-3 : tie.Need-returns-3
-returns-3 c w p =
+returns-3 c =
     let a = c .before .before .before .before .args in
-    word-as _ _ w _ (p .below) (word-none w) (λ v l. sym (number-bit (a .o) v (a .k) (c .before .if1 .left) ∙ bit-out (a .o .number) 8 (a .k) (omega arith) (c .if2 .left)))
+    let t = a .planes .now in
+    told-as t _ _ _ (told-none t) (λ v. sym (number-bit (a .o) v (a .k) (c .before .if1 .left) ∙ bit-out (a .o .number) 8 (a .k) (omega arith) (c .if2 .left)))
 
 pub bit-spec : {M : Type 1} → statement M
 bit-spec =

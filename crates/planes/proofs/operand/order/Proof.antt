@@ -1,11 +1,11 @@
 -- `planes::operand::order` meets its contract. The loop's invariant: what stands left of bit k is below, and is the same. The measure is k.
-use mathlib.Core.Path.{_≡_, refl, sym, ap, ap₂, _∙_}
+use mathlib.Core.Path.{_≡_, sym, ap, ap₂, _∙_}
 use Prim.Native.Nat.{ℕ, _+_, _-_, _/_, _^_, _≤_}
 use native.Mathlib.Omega.{arith}
 use lib.Dec.{ltb, eqb}
 use Rattle.planes.specs.Word.{Told, numberIn}
 use Rattle.planes.proofs.Numbers.{number-high}
-use Rattle.planes.proofs.Words.{told-as, word-as}
+use Rattle.planes.proofs.Words.{told-as, told-whole}
 use Rattle.planes.proofs.Turns.{below-turn, same-turn}
 use borrow.Author.Needs.{needs}
 use Rattle.planes.proofs.operand.order.Statement.{statement}
@@ -45,8 +45,8 @@ loop-holds c =
     let left : (v : ℕ) → h .before .high .result ≡ numberIn (a .x) v / 2 ^ n = λ v. h .before .high .ensures ∙ sym (number-high (a .x) v n (d .larger .ensures .0)) in
     let right : (v : ℕ) → h .high2 .result ≡ numberIn (a .y) v / 2 ^ n = λ v. h .high2 .ensures ∙ sym (number-high (a .y) v n (d .larger .ensures .1)) in (
       search needs,
-      λ w p. word-as _ _ w _ (p .below) (c .before .whole .ensures w) (λ v l. ap₂ ltb (left v) (right v)),
-      λ w p. word-as _ _ w _ (p .below) (c .whole2 .ensures w) (λ v l. ap₂ eqb (left v) (right v)),
+      told-as (a .planes .now) _ _ _ (told-whole (a .planes .now) _ _ (c .before .whole .ensures)) (λ v. ap₂ ltb (left v) (right v)),
+      told-as (a .planes .now) _ _ _ (told-whole (a .planes .now) _ _ (c .whole2 .ensures)) (λ v. ap₂ eqb (left v) (right v)),
     )
 
 sub-k : tie.Need-sub-k Inv-loop μ-loop
@@ -78,8 +78,8 @@ returns c =
     let a = c .before .before .before .before .before .before .before .before .args in
     let e : t .k ≡ 0 = omega arith in
     let all : (x : ℕ) → x / 2 ^ t .k ≡ x = λ x. ap (λ (k : ℕ). x / 2 ^ k) e ∙ omega arith in (
-      told-as (a .planes .now) _ _ _ (t .inv .1) (λ v l. ap₂ ltb (all (numberIn (a .x) v)) (all (numberIn (a .y) v))),
-      told-as (a .planes .now) _ _ _ (t .inv .2) (λ v l. ap₂ eqb (all (numberIn (a .x) v)) (all (numberIn (a .y) v))),
+      told-as (a .planes .now) _ _ _ (t .inv .1) (λ v. ap₂ ltb (all (numberIn (a .x) v)) (all (numberIn (a .y) v))),
+      told-as (a .planes .now) _ _ _ (t .inv .2) (λ v. ap₂ eqb (all (numberIn (a .x) v)) (all (numberIn (a .y) v))),
     )
 
 pub order-spec : {M : Type 1} → statement M

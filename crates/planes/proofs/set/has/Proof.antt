@@ -1,10 +1,9 @@
 -- `planes::set::has` meets its contract: member i is a bit of the set, and a set has no member past its size.
-use mathlib.Core.Path.{_≡_, sym, ap, _∙_}
+use mathlib.Core.Path.{sym}
 use native.Mathlib.Omega.{arith}
-use Rattle.bits.specs.Set.{sizeOf}
 use Rattle.bits.proofs.Set.{no-member}
 use Rattle.planes.specs.Word.{numberIn}
-use Rattle.planes.proofs.Words.{word-as, word-none}
+use Rattle.planes.proofs.Words.{told-as, told-none}
 use Rattle.planes.proofs.Turns.{has-in}
 use borrow.Author.Needs.{needs}
 use Rattle.planes.proofs.set.has.Statement.{statement}
@@ -29,9 +28,9 @@ returns c =
     has-in (a .planes .now) (numberIn (a .o)) (a .o .size) (a .i) (n .result) _ (omega (arith, n .ensures)) (n .ensures) (c .bit .ensures)
 
 returns-2 : tie.Need-returns-2
-returns-2 c w p =
+returns-2 c =
     let a = c .before .before .before .args in
-    word-as _ _ w _ (p .below) (word-none w) (λ v l. sym (no-member (a .o .size) (numberIn (a .o) v) (a .i) (omega (arith, c .before .size-of .ensures))))
+    told-as (a .planes .now) _ _ _ (told-none (a .planes .now)) (λ v. sym (no-member (a .o .size) (numberIn (a .o) v) (a .i) (omega (arith, c .before .size-of .ensures))))
 
 pub has-spec : {M : Type 1} → statement M
 has-spec = tie.close (tie.spec size-of-requires sub-bit sub-bit-2 bit-requires returns returns-2)

@@ -1,7 +1,7 @@
 -- `planes::set::member` meets its contract. The loop's invariant: the number is below i, and a member. The measure is what is left of eight.
 use mathlib.Core.Path.{_≡_, sym, ap, _∙_}
 use mathlib.Core.Bool.{Bool, _&&_}
-use Prim.Native.Nat.{ℕ, _+_, _-_, _≤_}
+use Prim.Native.Nat.{ℕ, _-_, _≤_}
 use native.Mathlib.Omega.{arith}
 use borrow.Author.Tests.{le-ltb}
 use lib.Dec.{ltb, eqb}
@@ -9,7 +9,7 @@ use Rattle.bits.specs.Set.{inSet}
 use Rattle.planes.specs.Word.{Told, numberIn}
 use Rattle.planes.specs.declared.operand.Operand.{Operand}
 use Rattle.planes.proofs.Numbers.{number-constant, number-plain}
-use Rattle.planes.proofs.Words.{told-as, word-as, word-none}
+use Rattle.planes.proofs.Words.{told-as, told-none}
 use Rattle.planes.proofs.Turns.{member-turn, member-all}
 use borrow.Author.Needs.{needs}
 use Rattle.planes.proofs.set.member.Statement.{statement}
@@ -31,12 +31,12 @@ has-requires c κs = search needs
 returns : tie.Need-returns Inv-loop μ-loop
 returns c =
     let a = c .before .before .before .before .before .args in
-    told-as (a .planes .now) _ _ _ (c .has .ensures) (λ v l. ap (inSet (a .y .size) (numberIn (a .y) v)) (sym (number-plain (a .x) v (c .before .before .if1 .taken))))
+    told-as (a .planes .now) _ _ _ (c .has .ensures) (λ v. ap (inSet (a .y .size) (numberIn (a .y) v)) (sym (number-plain (a .x) v (c .before .before .if1 .taken))))
 
 loop-holds : tie.Need-loop-holds Inv-loop μ-loop
 loop-holds c =
     let a = c .before .before .before .args in
-    (search needs, λ w p. word-as _ _ w _ (p .below) (word-none w) (λ v l. sym (ap (λ (t : Bool). t && inSet (a .y .size) (numberIn (a .y) v) (numberIn (a .x) v)) (le-ltb (numberIn (a .x) v) 0 (omega arith)))))
+    (search needs, told-as (a .planes .now) _ _ _ (told-none (a .planes .now)) (λ v. sym (ap (λ (t : Bool). t && inSet (a .y .size) (numberIn (a .y) v) (numberIn (a .x) v)) (le-ltb (numberIn (a .x) v) 0 (omega arith)))))
 
 constant-requires : tie.Need-constant-requires Inv-loop μ-loop
 constant-requires c κs = search needs
@@ -63,7 +63,7 @@ loop-again c =
     let k = c .before .before .before .constant in
     let o = c .before .before .order in
     let same : Told (a .planes .now) (λ v. eqb (numberIn (a .x) v) (t .i)) (o .result .same) =
-    told-as (a .planes .now) _ _ _ (o .ensures .1) (λ v l. ap (eqb (numberIn (a .x) v)) (ap (λ (z : Operand). numberIn z v) (k .ensures) ∙ number-constant (t .i) 0 v)) in
+    told-as (a .planes .now) _ _ _ (o .ensures .1) (λ v. ap (eqb (numberIn (a .x) v)) (ap (λ (z : Operand). numberIn z v) (k .ensures) ∙ number-constant (t .i) 0 v)) in
     (search needs, member-turn (a .planes .now) (numberIn (a .x)) (λ v. inSet (a .y .size) (numberIn (a .y) v)) (t .i) (t .r) _ _ (t .inv .1) same (c .before .has2 .ensures))
 
 returns-2 : tie.Need-returns-2 Inv-loop μ-loop
@@ -71,7 +71,7 @@ returns-2 c =
     let t = c .before .loop in
     let a = c .before .before .before .before .before .args in
     let e : t .i ≡ 8 = omega arith in
-    told-as (a .planes .now) _ _ _ (t .inv .1) (λ v l. ap (λ (i : ℕ). ltb (numberIn (a .x) v) i && inSet (a .y .size) (numberIn (a .y) v) (numberIn (a .x) v)) e ∙ member-all (a .y .size) (numberIn (a .y) v) (numberIn (a .x) v))
+    told-as (a .planes .now) _ _ _ (t .inv .1) (λ v. ap (λ (i : ℕ). ltb (numberIn (a .x) v) i && inSet (a .y .size) (numberIn (a .y) v) (numberIn (a .x) v)) e ∙ member-all (a .y .size) (numberIn (a .y) v) (numberIn (a .x) v))
 
 pub member-spec : {M : Type 1} → statement M
 member-spec =

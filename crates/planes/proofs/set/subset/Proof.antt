@@ -1,12 +1,12 @@
 -- `planes::set::subset` meets its contract. The loop's invariant: the first i members of x, where they are any, are members of y. The measure is
 -- what is left of the size.
-use mathlib.Core.Path.{_≡_, refl, sym, ap, _∙_}
-use mathlib.Core.Bool.{Bool, not, _||_}
-use Prim.Native.Nat.{ℕ, _+_, _-_, _≤_}
+use mathlib.Core.Path.{_≡_, ap}
+use mathlib.Core.Bool.{not, _||_}
+use Prim.Native.Nat.{_-_, _≤_}
 use native.Mathlib.Omega.{arith}
 use Rattle.bits.specs.Set.{sizeOf, inSet, allBelow, subsetOf}
 use Rattle.planes.specs.Word.{Told, numberIn}
-use Rattle.planes.proofs.Words.{told-as, word-all}
+use Rattle.planes.proofs.Words.{told-as, told-all}
 use Rattle.planes.proofs.Turns.{subset-turn}
 use borrow.Author.Needs.{needs}
 use Rattle.planes.proofs.set.subset.Statement.{statement}
@@ -24,7 +24,7 @@ size-of-requires c κs = search needs
 
 loop-holds : tie.Need-loop-holds Inv-loop μ-loop
 unfolding allBelow
-loop-holds c = (search needs, c .size-of .ensures, λ w p. word-all w)
+loop-holds c = (search needs, c .size-of .ensures, told-all _)
 
 has-requires : tie.Need-has-requires Inv-loop μ-loop
 has-requires c κs = search needs
@@ -53,7 +53,7 @@ returns c =
     let t = c .before .loop in
     let a = c .before .before .before .before .args in
     let e : t .i ≡ sizeOf (a .x .size) = omega (arith, t .inv .1) in
-    told-as (a .planes .now) _ _ _ (t .inv .2) (λ v l. ap (allBelow (λ i. not (inSet (a .x .size) (numberIn (a .x) v) i) || inSet (a .y .size) (numberIn (a .y) v) i)) e)
+    told-as (a .planes .now) _ _ _ (t .inv .2) (λ v. ap (allBelow (λ i. not (inSet (a .x .size) (numberIn (a .x) v) i) || inSet (a .y .size) (numberIn (a .y) v) i)) e)
 
 pub subset-spec : {M : Type 1} → statement M
 subset-spec =

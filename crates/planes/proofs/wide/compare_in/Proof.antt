@@ -1,4 +1,5 @@
 -- `planes::wide::compare_in` meets its contract: the planes are those of the word.
+use Rattle.planes.proofs.Words.{told-word}
 use borrow.Author.Needs.{needs}
 use Rattle.planes.proofs.wide.compare_in.Statement.{statement}
 use Rattle.planes.proofs.wide.compare_in.Tie as tie
@@ -13,7 +14,7 @@ compare-requires : tie.Need-compare-requires
 compare-requires c κs = search needs
 
 returns : tie.Need-returns
-returns c = c .compare .ensures (c .before .before .before .args .w) (c .before .before .planes-of .ensures)
+returns c = told-word _ _ _ _ (c .before .before .planes-of .ensures) (c .compare .ensures)
 
 pub compare-in-spec : {M : Type 1} → statement M
 compare-in-spec =

@@ -1,5 +1,5 @@
 -- `planes::word::planes_of` meets its contract: six planes are the same in every word, and two are bits of the word's number.
-use Rattle.planes.proofs.Words.{planesBy, planes-whole}
+use Rattle.planes.proofs.Words.{planes-whole}
 use borrow.Author.Needs.{needs}
 use Rattle.planes.proofs.word.planes_of.Statement.{statement}
 use Rattle.planes.proofs.word.planes_of.Tie as tie

@@ -1,5 +1,5 @@
 -- Laws of cells. In order: what a test picks; places, and a cell that is written; the next number; the codes; sessions: what a cell codes, what
--- the lent cells say, a further number given, a cell written; items, alike; what the program's answers stand for.
+-- the lent cells say, a further number given, a cell written; items, alike; sessions and items as the program reads them.
 -- Not here: rows (Rows).
 use mathlib.Core.Path.{_≡_, refl, sym, ap, _∙_, subst}
 use mathlib.Core.Bool.{Bool, true, false, _&&_, cond}
@@ -15,7 +15,7 @@ use lib.Seq.{getD-set-same, getD-set-other}
 use Rattle.bits.proofs.Set.{both-true}
 use Rattle.runs.specs.State.{Session, closed, opened}
 use Rattle.runs.proofs.Laws.{not-closed}
-use Rattle.cells.specs.Cell.{placeOf, openCell, closedCell, itemCell, sessionIn, sessionAt, itemIn, itemAt, sessionOf, itemOf}
+use Rattle.cells.specs.Cell.{placeOf, openCell, closedCell, itemCell, sessionIn, sessionAt, itemIn, itemAt, sessionRead, itemRead}
 use Rattle.cells.specs.Claims.{SessionThere, ItemThere}
 use Rattle.cells.specs.declared.SessionRead.{SessionRead}
 use Rattle.cells.specs.declared.ItemRead.{ItemRead}
@@ -278,20 +278,34 @@ module _ (listed : ℕ → Bool) where
   unfolding itemAt
   item-other cells next j k c n = ap (λ (c : ℕ). cond (ltb j next) (itemIn listed c) none) (unwritten cells j k c n)
 
--- what the program's answers stand for
+-- sessions and items as the program reads them
 
-pub read-session : (r : SessionRead) → r .there ≡ true → sessionOf r ≡ opened (r .user) (r .value)
-unfolding sessionOf
-read-session r e = simp e
+module _ {t : Session} where
+  pub read-opened : (u v : ℕ) → t ≡ opened u v → sessionRead t ≡ record { there = true; user = u; value = v }
+  unfolding sessionRead
+  read-opened u v e = ap sessionRead e
 
-pub read-no-session : (r : SessionRead) → r .there ≡ false → sessionOf r ≡ closed
-unfolding sessionOf
-read-no-session r e = simp e
+  pub read-closed : t ≡ closed → sessionRead t ≡ record { there = false; user = 0; value = 0 }
+  unfolding sessionRead
+  read-closed e = ap sessionRead e
 
-pub read-item : (r : ItemRead) → r .there ≡ true → itemOf r ≡ some (r .value)
-unfolding itemOf
-read-item r e = simp e
+module _ {t : Option ℕ} where
+  pub read-some : (v : ℕ) → t ≡ some v → itemRead t ≡ record { there = true; value = v }
+  unfolding itemRead
+  read-some v e = ap itemRead e
 
-pub read-no-item : (r : ItemRead) → r .there ≡ false → itemOf r ≡ none
-unfolding itemOf
-read-no-item r e = simp e
+  pub read-none : t ≡ none → itemRead t ≡ record { there = false; value = 0 }
+  unfolding itemRead
+  read-none e = ap itemRead e
+
+-- the session that was read
+pub session-of-read : (t : Session) (r : SessionRead) → r ≡ sessionRead t → t ≡ cond (r .there) (opened (r .user) (r .value)) closed
+unfolding sessionRead
+session-of-read closed r e = rw e refl
+session-of-read (opened u v) r e = rw e refl
+
+-- the item that was read
+pub item-of-read : (t : Option ℕ) (r : ItemRead) → r ≡ itemRead t → t ≡ cond (r .there) (some (r .value)) none
+unfolding itemRead
+item-of-read none r e = rw e refl
+item-of-read (some v) r e = rw e refl

@@ -1,7 +1,7 @@
 -- How the lent cells code sessions and items, and what a lent cell says [01:Steps, "A lent state that no run left is taken as it reads";
 -- docs/CELLS.md]. A session cell is 65536 + 256 * user + value, an item cell 65536 + value; 0 is a closed session, or nothing.
 -- Assumes nothing.
-use mathlib.Core.Bool.{Bool, _&&_, cond}
+use mathlib.Core.Bool.{Bool, false, true, _&&_, cond}
 use mathlib.Core.List.{List}
 use mathlib.Core.Option.{Option, none, some}
 use Prim.Native.Nat.{ℕ, _+_, _*_, _/_, _%_}
@@ -48,9 +48,12 @@ module _ (listed : ℕ → Bool) where
   unfoldable pub itemAt : List ℕ → ℕ → ℕ → Option ℕ
   itemAt cells next k = cond (ltb k next) (itemIn (getD cells (placeOf k) 0)) none
 
--- what the program's answers stand for
-unfoldable pub sessionOf : SessionRead → Session
-sessionOf r = cond (r .there) (opened (r .user) (r .value)) closed
+-- a session as the program reads it: where none is open, zeros
+unfoldable pub sessionRead : Session → SessionRead
+sessionRead closed = record { there = false; user = 0; value = 0 }
+sessionRead (opened user value) = record { there = true; user = user; value = value }
 
-unfoldable pub itemOf : ItemRead → Option ℕ
-itemOf r = cond (r .there) (some (r .value)) none
+-- an item as the program reads it: where there is none, a zero
+unfoldable pub itemRead : Option ℕ → ItemRead
+itemRead none = record { there = false; value = 0 }
+itemRead (some value) = record { there = true; value = value }

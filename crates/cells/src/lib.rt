@@ -4,7 +4,7 @@ ghost use mathlib.Core.Bool.{false};
 ghost use lib.ListN.{getD};
 ghost use Rattle.policy.specs.Rules.{attrsOf};
 ghost use Rattle.lists.specs.Lists.{listed as listedIn};
-ghost use Rattle.cells.specs.Cell.{placeOf, openCell, itemCell, sessionAt, itemAt, sessionOf, itemOf};
+ghost use Rattle.cells.specs.Cell.{placeOf, openCell, itemCell, sessionAt, itemAt, sessionRead, itemRead};
 
 mod row;
 
@@ -67,7 +67,7 @@ fn no_session() -> SessionRead
 
 // Session number k, as the lent cells read, where there are so many users and sessions have the attributes of the class.
 pub fn session_at(users: u8, class: Class, cells: &[u64], next: u64, k: u64) -> SessionRead
-    ensures { λ r. ⌜ sessionOf r ≡ sessionAt users (listedIn (attrsOf class)) (now (cells .entry)) next k ⌝ }
+    ensures { λ r. ⌜ r ≡ sessionRead (sessionAt users (listedIn (attrsOf class)) (now (cells .entry)) next k) ⌝ }
 {
     if next <= k {
         return no_session();
@@ -93,7 +93,7 @@ pub fn session_at(users: u8, class: Class, cells: &[u64], next: u64, k: u64) -> 
 
 // Item number k, as the lent cells read, where items have the attributes of the class.
 pub fn item_at(class: Class, cells: &[u64], next: u64, k: u64) -> ItemRead
-    ensures { λ r. ⌜ itemOf r ≡ itemAt (listedIn (attrsOf class)) (now (cells .entry)) next k ⌝ }
+    ensures { λ r. ⌜ r ≡ itemRead (itemAt (listedIn (attrsOf class)) (now (cells .entry)) next k) ⌝ }
 {
     let none = ItemRead {
         there: false,

@@ -13,21 +13,24 @@ use lib.Dec.{ltb, eqb}
 use lib.ListN.{length, drop, getD, length-drop}
 use lib.Seq.{drop-cons}
 use Rattle.policy.specs.Policy.{Policy}
-use Rattle.policy.specs.Rules.{attrsOf, listsOf, policyOf}
+use Rattle.policy.specs.Rules.{attrsOf, policyOf}
 use Rattle.policy.specs.declared.Rules.{Rules}
 use Rattle.policy.proofs.Laws.{values-length, sessions-length}
 use Rattle.rules.specs.Answers.{Answer, refusal, rules}
 use Rattle.lists.specs.Lists.{listed}
 use Rattle.runs.specs.Model.{Model}
+use Rattle.runs.specs.State.{closed, opened}
 use Rattle.runs.specs.Grant.{Who, session, user, anyone, item, anything}
 use Rattle.allowed.specs.Allowed.{modelOf}
 use Rattle.cells.specs.Row.{partsOf as rowParts, stepOf}
-use Rattle.cells.specs.Cell.{sessionAt, sessionOf}
+use Rattle.cells.specs.Cell.{sessionAt, sessionRead}
 use Rattle.cells.specs.declared.row.Row.{Row}
 use Rattle.cells.specs.declared.SessionRead.{SessionRead}
+use Rattle.cells.proofs.Laws.{session-of-read}
 use Rattle.live.specs.Lent.{Lent, After, lentAs, refused}
 use Rattle.live.specs.declared.Next.{Next}
 use Rattle.steps.specs.Step.{sessionNow, stepIn}
+use Rattle.steps.proofs.Laws.{session-in}
 use Rattle.starting.specs.Start.{started, nothingGiven}
 use Rattle.replay.specs.Question.{partsOf, whoOf, whichOf, whoAmong, whichAmong, partsAsk, asks}
 use Rattle.replay.specs.Rows.{Ran, ranAll, further, rowsIn}
@@ -100,20 +103,17 @@ asked r bytes q e = rw e (simp (sessions-length (r .sessions), values-length (r 
 
 -- what fits
 
-of-held : (b : Bool) (u v a : ℕ) → isOf a (sessionOf record { there = b; user = u; value = v }) ≡ cond b (eqb u a) false
-unfolding isOf sessionOf
+of-held : (b : Bool) (u v a : ℕ) → isOf a (cond b (opened u v) closed) ≡ cond b (eqb u a) false
+unfolding isOf
 of-held true u v a = refl
 of-held false u v a = refl
 
 -- a session that reads as held is one of user a exactly when it is there and is a's
 pub held-fits : (r : Rules) (sessions items : List ℕ) (next : Next) (held : SessionRead) (k a : ℕ)
-    → sessionOf held ≡ sessionAt (r .users .count) (listed (attrsOf (r .classes .session))) sessions (next .session) k
+    → held ≡ sessionRead (sessionAt (r .users .count) (listed (attrsOf (r .classes .session))) sessions (next .session) k)
     → isOf a (sessionNow (modelOf (policyOf r)) (lentAs sessions items next) k) ≡ cond (held .there) (eqb (held .user) a) false
-unfolding sessionNow modelOf policyOf listsOf
 held-fits r sessions items next held k a e =
-    ap (λ (n : ℕ). isOf a (sessionAt n (listed (attrsOf (r .classes .session))) sessions (next .session) k)) (values-length (r .users))
-    ∙ ap (isOf a) (sym e)
-    ∙ of-held (held .there) (held .user) (held .value) a
+    ap (isOf a) (session-in r sessions items next k ∙ session-of-read _ held e) ∙ of-held (held .there) (held .user) (held .value) a
 
 module _ (m : Model) (s : Lent) {w : Who} (k : ℕ) where
   pub session-fits : {j : ℕ} → w ≡ session j → whoFits m s w k ≡ eqb k j

@@ -10,23 +10,25 @@ use native.Mathlib.Omega.{arith}
 use borrow.Author.Tests.{eq-eqb, ne-eqb, not-true, not-false}
 use lib.Dec.{ltb, eqb}
 use lib.ListN.{length, set, List·getD-eq-default}
-use Rattle.policy.specs.Rules.{policyOf}
+use Rattle.policy.specs.Rules.{attrsOf, policyOf}
 use Rattle.policy.specs.declared.Rules.{Rules}
+use Rattle.lists.specs.Lists.{listed}
 use Rattle.runs.specs.Model.{Model}
 use Rattle.runs.specs.State.{Session, closed, opened}
 use Rattle.runs.specs.Step.{Step}
 use Rattle.allowed.specs.Allowed.{modelOf}
 use Rattle.cells.specs.Row.{partsOf, stepOf}
-use Rattle.cells.specs.Cell.{placeOf, closedCell, sessionIn, sessionAt, itemIn, itemAt, sessionOf, itemOf}
+use Rattle.cells.specs.Cell.{placeOf, closedCell, sessionIn, sessionAt, itemIn, itemAt, sessionRead, itemRead}
 use Rattle.cells.specs.declared.row.Row.{Row}
 use Rattle.cells.specs.declared.SessionRead.{SessionRead}
 use Rattle.cells.specs.declared.ItemRead.{ItemRead}
+use Rattle.cells.proofs.Laws.{session-of-read, item-of-read}
 use Rattle.live.specs.Lent.{Lent, After, lentAs, leaves, refused, done, tested}
 use Rattle.live.specs.declared.Next.{Next}
 use Rattle.live.specs.declared.Stepped.{Stepped}
 use Rattle.live.specs.declared.Outcome.the-variants as Outcome
 use Rattle.live.proofs.Laws.{here, all, also, fails, hold, gives}
-use Rattle.steps.specs.Step.{withSession, withItem, sessionGiven, itemGiven, byKind, stepIn}
+use Rattle.steps.specs.Step.{sessionNow, withSession, withItem, sessionGiven, itemGiven, byKind, stepIn}
 use Rattle.steps.proofs.ModelLaws.{modelIn, model-in}
 
 -- what a session reads as
@@ -35,14 +37,19 @@ either-way : {A : Type 0} (b : Bool) (x : A) → cond b x x ≡ x
 either-way true x = refl
 either-way false x = refl
 
-module _ (r : SessionRead) {x : Session} (e : sessionOf r ≡ x) where
+module _ (r : SessionRead) {x : Session} (e : r ≡ sessionRead x) where
   pub read-open : not (r .there) ≡ false → x ≡ opened (r .user) (r .value)
-  unfolding sessionOf
-  read-open h = sym e ∙ rw (not-false (r .there) h) refl
+  read-open h = session-of-read x r e ∙ rw (not-false (r .there) h) refl
 
   pub read-closed : not (r .there) ≡ true → x ≡ closed
-  unfolding sessionOf
-  read-closed h = sym e ∙ rw (not-true (r .there) h) refl
+  read-closed h = session-of-read x r e ∙ rw (not-true (r .there) h) refl
+
+-- a session as it reads, of rules in memory
+pub session-in : (r : Rules) (sessions items : List ℕ) (next : Next) (k : ℕ)
+    → sessionNow (modelOf (policyOf r)) (lentAs sessions items next) k
+    ≡ sessionAt (r .users .count) (listed (attrsOf (r .classes .session))) sessions (next .session) k
+unfolding sessionNow
+session-in r sessions items next k = ap (λ (m : Model). sessionNow m (lentAs sessions items next) k) (model-in r)
 
 -- an open session has a cell
 pub open-celled : (users : ℕ) (f : ℕ → Bool) (cells : List ℕ) (next k u v : ℕ) → sessionAt users f cells next k ≡ opened u v → placeOf k < length cells
@@ -57,14 +64,12 @@ open-celled users f cells next k u v e = go (decLe (length cells) (placeOf k))
 
 -- an item reads likewise
 
-module _ (r : ItemRead) {x : Option ℕ} (e : itemOf r ≡ x) where
+module _ (r : ItemRead) {x : Option ℕ} (e : r ≡ itemRead x) where
   pub read-item : not (r .there) ≡ false → x ≡ some (r .value)
-  unfolding itemOf
-  read-item h = sym e ∙ rw (not-false (r .there) h) refl
+  read-item h = item-of-read x r e ∙ rw (not-false (r .there) h) refl
 
   pub read-none : not (r .there) ≡ true → x ≡ none
-  unfolding itemOf
-  read-none h = sym e ∙ rw (not-true (r .there) h) refl
+  read-none h = item-of-read x r e ∙ rw (not-true (r .there) h) refl
 
 -- an item has a cell
 pub item-celled : (f : ℕ → Bool) (cells : List ℕ) (next k o : ℕ) → itemAt f cells next k ≡ some o → placeOf k < length cells

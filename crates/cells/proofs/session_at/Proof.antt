@@ -1,12 +1,10 @@
 -- `cells::session_at` meets its contract: each test that fails reads as closed, in the order of the code.
-use mathlib.Core.Path.{refl, sym, ap, _∙_}
-use mathlib.Core.Bool.{true}
+use mathlib.Core.Path.{sym, _∙_}
 use Prim.Native.Nat.{_/_, _%_}
 use borrow.Author.Tests.{not-true, not-false}
 use Rattle.policy.specs.Rules.{attrsOf}
 use Rattle.lists.specs.Lists.{listed}
-use Rattle.cells.specs.declared.SessionRead.{SessionRead}
-use Rattle.cells.proofs.Laws.{session-past, session-unmarked, session-unknown, session-unlisted, session-marked, read-session, read-no-session}
+use Rattle.cells.proofs.Laws.{session-past, session-unmarked, session-unknown, session-unlisted, session-marked, read-opened, read-closed}
 use borrow.Author.Needs.{needs}
 use Rattle.cells.proofs.session_at.Statement.{statement}
 use Rattle.cells.proofs.session_at.Tie as tie
@@ -17,8 +15,10 @@ no-session-requires c κs = search needs
 returns : tie.Need-returns
 returns c =
     let a = c .before .before .before .args in
-    read-no-session (c .no-session .result) (ap (λ (r : SessionRead). r .there) (c .no-session .ensures))
-    ∙ sym (session-past (a .users) (listed (attrsOf (a .class))) (a .cells .now) (a .next) (a .k) (c .before .if1 .taken))
+    c .no-session .ensures
+    ∙ sym
+    (read-closed
+    (session-past (a .users) (listed (attrsOf (a .class))) (a .cells .now) (a .next) (a .k) (c .before .if1 .taken)))
 
 cell-at-requires : tie.Need-cell-at-requires
 cell-at-requires c κs = search needs
@@ -30,8 +30,10 @@ returns-2 : tie.Need-returns-2
 returns-2 c =
     let a = c .before .before .before .before .before .args in
     let s = c .before .before .cell-at in
-    read-no-session (c .no-session2 .result) (ap (λ (r : SessionRead). r .there) (c .no-session2 .ensures))
-    ∙ sym (session-unmarked (a .users) (listed (attrsOf (a .class))) (a .cells .now) (a .next) (a .k) (s .result) (c .before .before .before .if1 .left) (s .ensures) (c .before .if2 .taken))
+    c .no-session2 .ensures
+    ∙ sym
+    (read-closed
+    (session-unmarked (a .users) (listed (attrsOf (a .class))) (a .cells .now) (a .next) (a .k) (s .result) (c .before .before .before .if1 .left) (s .ensures) (c .before .if2 .taken)))
 
 cast-user : tie.Need-cast-user
 cast-user c = search needs
@@ -43,10 +45,11 @@ returns-3 : tie.Need-returns-3
 returns-3 c =
     let a = c .before .before .before .before .before .before .args in
     let s = c .before .before .before .cell-at in
-    read-no-session (c .no-session3 .result) (ap (λ (r : SessionRead). r .there) (c .no-session3 .ensures))
+    c .no-session3 .ensures
     ∙ sym
+    (read-closed
     (session-unknown (a .users) (listed (attrsOf (a .class))) (a .cells .now) (a .next) (a .k) (s .result) (c .before .before .before .before .if1 .left) (s .ensures)
-    (c .before .before .if2 .left) (c .before .if3 .taken))
+    (c .before .before .if2 .left) (c .before .if3 .taken)))
 
 cast-value : tie.Need-cast-value
 cast-value c = search needs
@@ -65,20 +68,21 @@ returns-4 c =
     let a = c .before .before .before .before .before .before .before .before .args in
     let s = c .before .before .before .before .before .cell-at in
     let l = c .before .before .listed in
-    read-no-session (c .no-session4 .result) (ap (λ (r : SessionRead). r .there) (c .no-session4 .ensures))
+    c .no-session4 .ensures
     ∙ sym
+    (read-closed
     (session-unlisted (a .users) (listed (attrsOf (a .class))) (a .cells .now) (a .next) (a .k) (s .result) (c .before .before .before .before .before .before .if1 .left) (s .ensures)
-    (c .before .before .before .before .if2 .left) (c .before .before .before .if3 .left) (sym (l .ensures) ∙ not-true (l .result) (c .before .if4 .taken)))
+    (c .before .before .before .before .if2 .left) (c .before .before .before .if3 .left) (sym (l .ensures) ∙ not-true (l .result) (c .before .if4 .taken))))
 
 returns-5 : tie.Need-returns-5
 returns-5 c =
     let a = c .before .before .before .before .before .before .before .args in
     let s = c .before .before .before .before .cell-at in
     let l = c .before .listed in
-    read-session record { there = true; user = s .result / 256 % 256; value = s .result % 256 } refl
-    ∙ sym
+    sym
+    (read-opened (s .result / 256 % 256) (s .result % 256)
     (session-marked (a .users) (listed (attrsOf (a .class))) (a .cells .now) (a .next) (a .k) (s .result) (c .before .before .before .before .before .if1 .left) (s .ensures)
-    (c .before .before .before .if2 .left) (c .before .before .if3 .left) (sym (l .ensures) ∙ not-false (l .result) (c .if4 .left)))
+    (c .before .before .before .if2 .left) (c .before .before .if3 .left) (sym (l .ensures) ∙ not-false (l .result) (c .if4 .left))))
 
 pub session-at-spec : {M : Type 1} → statement M
 session-at-spec =

@@ -1,9 +1,9 @@
--- Laws of the model, for callers. In order: of rules in memory its counts and the values in the lists; of any policy what each formula is
--- asked, and that listed values are bytes.
+-- Laws of the model, for callers. In order: of rules in memory its counts and the values in the lists; of any policy the same, what each formula is
+-- asked, and that listed values are bytes; policies with the same model.
 use mathlib.Core.Path.{_≡_, refl, ap}
 use mathlib.Core.Bool.{Bool, true}
 use Prim.Native.Nat.{ℕ, _+_, _<_}
-use lib.ListN.{getD}
+use lib.ListN.{length, getD}
 use Rattle.policy.specs.Policy.{Policy}
 use Rattle.policy.specs.Rules.{attrsOf, listsOf, valuesOf, policyOf}
 use Rattle.policy.specs.declared.Rules.{Rules}
@@ -42,6 +42,18 @@ module _ (r : Rules) where
   model-user-value u = refl
 
 module _ (p : Policy) where
+  pub model-user-count : modelOf p .users ≡ length (p .users)
+  unfolding modelOf
+  model-user-count = refl
+
+  pub model-session-listed : (v : ℕ) → modelOf p .sessionValue v ≡ listed (p .lists .ofSession) v
+  unfolding modelOf
+  model-session-listed v = refl
+
+  pub model-item-listed : (o : ℕ) → modelOf p .itemValue o ≡ listed (p .lists .ofItem) o
+  unfolding modelOf
+  model-item-listed o = refl
+
   pub model-may-open : (u v : ℕ) → modelOf p .mayOpen u v ≡ says p 0 (opening (userValue p u) v)
   unfolding modelOf
   model-may-open u v = refl
@@ -70,6 +82,12 @@ module _ (p : Policy) where
   pub model-item-byte : (o : ℕ) → modelOf p .itemValue o ≡ true → o < 256
   unfolding modelOf
   model-item-byte o = listed-byte (p .lists .ofItem) o
+
+-- what stands at the start makes no difference to what is allowed
+pub model-same : (p q : Policy) → p .head .permissions ≡ q .head .permissions → p .users ≡ q .users → p .lists ≡ q .lists → p .formulas ≡ q .formulas
+    → modelOf p ≡ modelOf q
+unfolding modelOf says userValue
+model-same p q a b c d = rw (a, b, c, d) refl
 
 -- what rules allow is what their basis and nodes do
 module _ (r : Rules) (b : Basis) (B : BasisOf r b) where

@@ -19,7 +19,9 @@ use Rattle.runs.specs.Reach.{Brought}
 use Rattle.runs.specs.Outcome.{stop}
 use Rattle.verdict.proofs.Below.{not-both}
 use Rattle.allowed.specs.Allowed.{modelOf}
+use Rattle.allowed.proofs.ModelLaws.{model-user-count}
 use Rattle.starting.specs.Start.{beginning}
+use Rattle.starting.proofs.Beginning.{beginning-items, beginning-long, beginning-session}
 use Rattle.replay.specs.Asked.{AsksWho, one-session, one-user, any-session, AsksItem, one-item, any-item}
 use Rattle.replay.specs.Question.{whoOf, whichOf}
 use Rattle.replay.specs.declared.question.Question.{Question}
@@ -32,7 +34,7 @@ use Rattle.session_rows.specs.declared.Pen.{Pen}
 use Rattle.user_searches.specs.Found.{userFound, UsersFound, anyHas, Names}
 use Rattle.goal.specs.Asked.{PenReady}
 use Rattle.goal.specs.Asked.{itemFound, sessionFound, aimOf}
-use Rattle.analyser.proofs.Widths.{users-are, beginning-items, beginning-long, beginning-session, sessions-few, items-few, rules-sessions, rules-items, rules-items-long, rules-item}
+use Rattle.analyser.proofs.Widths.{sessions-few, items-few, rules-sessions, rules-items, rules-items-long, rules-item}
 use Rattle.user_searches.proofs.UsersReach.{user-is, user-lane}
 use Rattle.analyser.proofs.ItemsReach.{ItemSearch, one-search, any-search, good-as}
 use Rattle.analyser.proofs.Hits.{Hit}
@@ -102,7 +104,7 @@ module _ (r : Rules) (q : Question) (sound : Sound (policyOf r)) (users : List F
         )
     who-aimed (one-user e h w) v l t =
         let few : q .who < 16 = omega (arith, h, sound .users) in
-        let i : q .who < modelOf (policyOf r) .users = omega (arith, h, users-are (policyOf r)) in
+        let i : q .who < modelOf (policyOf r) .users = omega (arith, h, model-user-count (policyOf r)) in
         rw (w, aim-owner-user r q v e, aim-value r q v l) (
           aim-kind r q v ∙ e,
           refl,

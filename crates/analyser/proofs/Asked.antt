@@ -21,7 +21,9 @@ use Rattle.runs.specs.Reach.{Reach, ReachFrom, WhoReach, AskedWho, AskedWhich}
 use Rattle.runs.specs.Outcome.{Below}
 use Rattle.verdict.proofs.Decided.{star-map, changes-to}
 use Rattle.allowed.specs.Allowed.{modelOf}
+use Rattle.allowed.proofs.ModelLaws.{model-user-count}
 use Rattle.starting.specs.Start.{beginning}
+use Rattle.starting.proofs.Beginning.{beginning-items, beginning-long, beginning-session}
 use Rattle.replay.specs.Asked.{AsksWho, one-session, one-user, any-session, AsksItem, one-item, any-item}
 use Rattle.replay.specs.Question.{partsOf, whoOf, whichOf, asks}
 use Rattle.replay.specs.declared.question.Question.{Question}
@@ -34,7 +36,7 @@ use Rattle.search.proofs.Theorems.{own-is-searched, searched-is-closure}
 use Rattle.analyser.specs.Answer.{sessionValues, itemValues}
 use Rattle.user_searches.specs.Found.{userFound, UsersFound, anyHas}
 use Rattle.goal.specs.Asked.{itemFound, sessionFound, whoFound, aimOf}
-use Rattle.analyser.proofs.Widths.{users-are, beginning-items, beginning-long, beginning-session, sessions-few, beginning-below, rules-session}
+use Rattle.analyser.proofs.Widths.{sessions-few, beginning-below, rules-session}
 use Rattle.user_searches.proofs.UsersReach.{user-lane, lane-user, any-is}
 
 -- a question that asks something
@@ -158,7 +160,7 @@ module _ (r : Rules) (q : Question) where
     session-byte w e = omega (arith, sessions-few (policyOf r) sound, below .sessions w e)
 
     pub few-users : modelOf (policyOf r) .users ≤ 16
-    few-users = omega (arith, users-are (policyOf r), sound .users)
+    few-users = omega (arith, model-user-count (policyOf r), sound .users)
 
     module _ (users : List Found) (found : UsersFound (modelOf (policyOf r)) users) where
       abbrev pub tested : ℕ → Bool

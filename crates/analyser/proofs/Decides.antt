@@ -24,7 +24,7 @@ use Rattle.verdict.specs.Verdict.{pairs, leaks, values}
 use Rattle.verdict.proofs.Theorems.{verdict-is-computed, pairs-are-counted, values-are-counted}
 use Rattle.allowed.specs.Allowed.{modelOf}
 use Rattle.cells.specs.Leak.{IsLeak}
-use Rattle.live.specs.Lent.{numbers}
+use Rattle.live.proofs.Laws.{numbers-are}
 use Rattle.steps.proofs.Files.{file-sound}
 use Rattle.starting.specs.Start.{beginning}
 use Rattle.replay.specs.Question.{partsOf, whoOf, whichOf, asks}
@@ -218,13 +218,12 @@ module _ (file question before after : List ℕ) (r : Rules) (users : List Found
   rows-few = unless (λ _ z _. omega arith) λ _ h L. left-leaks r q sound users found asking brought before after (a .rows) room h L .1
 
   numbers-left : toldBy a .verdict ≡ leakVerdict → NumbersLeft (policyOf r) (take (a .rows) after)
-  unfolding numbers
   numbers-left v =
       let rows = take (a .rows) after in
       let long : length rows ≡ a .rows = length-take-le (a .rows) after (is-leak v .1) in
       record {
-        session-numbers = omega (arith, long, rows-few, rows-bounded (policyOf r) sound, kind-few 1 rows, sound .sessions);
-        item-numbers = omega (arith, long, rows-few, rows-bounded (policyOf r) sound, kind-few 4 rows, sound .items);
+        session-numbers = omega (arith, numbers-are, long, rows-few, rows-bounded (policyOf r) sound, kind-few 1 rows, sound .sessions);
+        item-numbers = omega (arith, numbers-are, long, rows-few, rows-bounded (policyOf r) sound, kind-few 4 rows, sound .items);
       }
 
   replays : toldBy a .verdict ≡ leakVerdict → (sessions items : List ℕ) → Enough (policyOf r) (take (a .rows) after) (length sessions) (length items)

@@ -11,11 +11,12 @@ use Rattle.policy.specs.Rules.{sessionsOf, policyOf}
 use Rattle.policy.specs.declared.Rules.{Rules}
 use Rattle.lists.specs.Sound.{Sound, startingSession}
 use Rattle.lists.proofs.Laws.{listed-byte}
-use Rattle.runs.specs.State.{begin}
 use Rattle.runs.specs.Reach.{Brought}
 use Rattle.verdict.specs.Verdict.{allBrought, leaks}
 use Rattle.allowed.specs.Allowed.{modelOf}
+use Rattle.allowed.proofs.ModelLaws.{model-user-count}
 use Rattle.starting.specs.Start.{beginning}
+use Rattle.starting.proofs.Beginning.{beginning-sessions}
 use Rattle.cells.specs.Leak.{IsLeak}
 use Rattle.replay.specs.Question.{whoOf, whichOf}
 use Rattle.replay.specs.declared.question.Question.{Question}
@@ -26,7 +27,7 @@ use Rattle.analyser.specs.Answer.{sessionValues, itemValues, rowsNeeded,
 use Rattle.user_searches.specs.Found.{UsersFound, anyHas, allFound}
 use Rattle.goal.specs.Asked.{itemFound, sessionFound, aimOf}
 use Rattle.analyser.specs.Decide.{startsFound, leakPlace, leakValue, LeakLeft}
-use Rattle.analyser.proofs.Widths.{needed-is, sessions-few, items-few, users-are}
+use Rattle.analyser.proofs.Widths.{needed-is, sessions-few, items-few}
 use Rattle.analyser.proofs.Starts.{brought-of}
 use Rattle.user_searches.proofs.UsersReach.{all-agree}
 use Rattle.analyser.proofs.Hits.{Hit, hit-here, hits-agree}
@@ -35,13 +36,14 @@ use Rattle.analyser.proofs.Aims.{item-search, hit-aimed, pen-stands}
 
 module _ (r : Rules) (q : Question) (sound : Sound (policyOf r)) (users : List Found) (found : UsersFound (modelOf (policyOf r)) users) where
   found-agree : allFound users (sessionsOf (r .sessions)) ≡ allBrought (modelOf (policyOf r)) (sessionValues (policyOf r)) (beginning (policyOf r) .sessions)
-  unfolding beginning begin policyOf startingSession
+  unfolding policyOf startingSession
   found-agree =
       all-agree (modelOf (policyOf r)) (beginning (policyOf r)) _ _ (below r q sound) (sessions-few (policyOf r) sound) (few-users r q sound) users found (sessionsOf (r .sessions))
       (λ j h. (
-        omega (arith, users-are (policyOf r), sound .session-user j h),
+        omega (arith, model-user-count (policyOf r), sound .session-user j h),
         listed-byte (policyOf r .lists .ofSession) (startingSession (policyOf r) j .value) (sound .session-value j h),
       ))
+      ∙ ap (allBrought (modelOf (policyOf r)) (sessionValues (policyOf r))) (sym (beginning-sessions (policyOf r)))
 
   -- the starting sessions were all found exactly where they could have been brought about
   pub all-found-agree : startsFound r users ≡ startsBrought (policyOf r)

@@ -1,6 +1,6 @@
 -- Starting sessions that their users could have brought about: computed, and of runs of the file without its starting sessions.
 -- In order: that file; what its runs have open; all starting sessions; one that could not.
-use mathlib.Core.Path.{_≡_, refl, sym, _∙_, subst}
+use mathlib.Core.Path.{_≡_, refl, sym, ap, _∙_, subst}
 use mathlib.Core.Bool.{true, false}
 use mathlib.Core.Logic.{_↔_}
 use mathlib.Core.List.{[]}
@@ -15,20 +15,22 @@ use Rattle.runs.proofs.Laws.{open-inside}
 use Rattle.runs.proofs.Theorems.{could-is-reach}
 use Rattle.verdict.proofs.Decided.{unbrought-is}
 use Rattle.verdict.proofs.Theorems.{brought-is-computed}
-use Rattle.allowed.specs.Allowed.{says, userValue, modelOf}
+use Rattle.allowed.specs.Allowed.{modelOf}
+use Rattle.allowed.proofs.ModelLaws.{model-same}
 use Rattle.starting.specs.Start.{beginning}
+use Rattle.starting.proofs.Beginning.{beginning-is, beginning-items, beginning-long, beginning-session}
 use Rattle.analyser.specs.Answer.{sessionValues, itemValues, startsBrought}
 use Rattle.analyser.specs.Never.{withoutSessions, CouldBring, StartCould, StartCouldNot}
-use Rattle.analyser.proofs.Widths.{beginning-long, beginning-session, beginning-below}
+use Rattle.analyser.proofs.Widths.{beginning-below}
 
 module _ (p : Policy) where
   without-model : modelOf (withoutSessions p) ≡ modelOf p
-  unfolding modelOf withoutSessions says userValue
-  without-model = refl
+  unfolding withoutSessions
+  without-model = model-same (withoutSessions p) p refl refl refl refl
 
   without-start : beginning (withoutSessions p) ≡ begin [] (beginning p .items)
-  unfolding beginning begin withoutSessions
-  without-start = refl
+  unfolding withoutSessions
+  without-start = beginning-is (withoutSessions p) ∙ ap (begin []) (sym (beginning-items p))
 
   could-reach : (u v : ℕ) → CouldBring p u v ↔ Reach (modelOf p) u v
   could-reach u v = rw (without-model, without-start) (could-is-reach (modelOf p) (beginning p .items) u v)

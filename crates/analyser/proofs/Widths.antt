@@ -1,26 +1,26 @@
--- Laws of a file's rules, for the theory of answers. In order: the rows that widths need; how many values there are and what rows they need; what
--- stands at the start; rules in memory.
-use mathlib.Core.Path.{_≡_, refl, ap, _∙_}
+-- Laws of a file's rules, for the theory of answers. In order: the rows that widths need; how many values there are and what rows they need,
+-- and that the values of a file are below these; rules in memory.
+use mathlib.Core.Path.{_≡_, refl, sym, ap, _∙_}
 use mathlib.Core.Bool.{Bool, cond}
-use mathlib.Core.List.{List, [], _∷_, map}
-use Prim.Native.Nat.{ℕ, zero, suc, _+_, _*_, _^_, _≤_, _<_}
+use Prim.Native.Nat.{ℕ, _+_, _*_, _^_, _≤_, _<_}
 use native.Mathlib.Nat.{mul-le-mul-right}
 use native.Mathlib.Omega.{arith}
 use borrow.Author.Tests.{lt-ltb, le-ltb}
 use lib.Dec.{ltb}
-use lib.ListN.{length, getD, length-map}
+use lib.ListN.{length, getD}
 use lib.Pow.{pow-mono}
 use Rattle.bits.proofs.Packed.{getD-tab}
-use Rattle.policy.specs.Policy.{Session, Policy, width}
+use Rattle.policy.specs.Policy.{Policy, width}
 use Rattle.policy.specs.Rules.{attrsOf, listsOf, sessionsOf, valuesOf, policyOf}
 use Rattle.policy.specs.declared.Rules.{Rules}
 use Rattle.policy.proofs.Laws.{values-length, sessions-length}
 use Rattle.lists.proofs.Narrow.{listed-narrow}
 use Rattle.lists.specs.Sound.{Sound, startingSession}
-use Rattle.runs.specs.State.{closed, opened, begin, sessionAt, itemAt}
 use Rattle.runs.specs.Outcome.{Below}
 use Rattle.allowed.specs.Allowed.{modelOf}
+use Rattle.allowed.proofs.ModelLaws.{model-session-listed, model-item-listed}
 use Rattle.starting.specs.Start.{beginning}
+use Rattle.starting.proofs.Beginning.{beginning-item, beginning-items}
 use Rattle.analyser.specs.Answer.{sessionValues, itemValues, rowsNeeded}
 use Rattle.analyser.specs.Decide.{rowsFor}
 
@@ -42,41 +42,6 @@ module _ (p : Policy) where
   unfolding rowsNeeded
   needed-is = refl
 
-  pub users-are : modelOf p .users ≡ length (p .users)
-  unfolding modelOf
-  users-are = refl
-
-  pub permissions-are : modelOf p .permissions ≡ p .head .permissions
-  unfolding modelOf
-  permissions-are = refl
-
-  pub beginning-items : beginning p .items ≡ p .items
-  unfolding beginning begin
-  beginning-items = refl
-
-  pub beginning-long : length (beginning p .sessions) ≡ length (p .sessions)
-  unfolding beginning begin
-  beginning-long = let pair : Session → ℕ × ℕ = λ t. (t .user, t .value) in length-map (map pair (p .sessions)) (λ (x : ℕ × ℕ). opened (x .0) (x .1)) ∙ length-map (p .sessions) pair
-
-  pub beginning-item : (j : ℕ) → itemAt (beginning p) j ≡ getD (p .items) j 0
-  unfolding beginning begin itemAt
-  beginning-item j = refl
-
-map-at : {A B : Type 0} (f : A → B) (l : List A) (d : A) (e : B) (k : ℕ) → k < length l → getD (map f l) k e ≡ f (getD l k d)
-map-at f [] d e k h = absurd (omega arith)
-map-at f (x ∷ l) d e zero h = refl
-map-at f (x ∷ l) d e (suc k) h = map-at f l d e k (omega arith)
-
--- a starting session stands open
-pub beginning-session : (p : Policy) (k : ℕ) → k < length (p .sessions) → sessionAt (beginning p) k ≡ opened (startingSession p k .user) (startingSession p k .value)
-unfolding beginning begin sessionAt startingSession
-beginning-session p k h =
-    let pair : Session → ℕ × ℕ = λ t. (t .user, t .value) in
-    let pairs = map pair (p .sessions) in
-    let m : length pairs ≡ length (p .sessions) = length-map (p .sessions) pair in
-    map-at (λ (x : ℕ × ℕ). opened (x .0) (x .1)) pairs (0, 0) closed k (omega (arith, h, m))
-    ∙ ap (λ (x : ℕ × ℕ). opened (x .0) (x .1)) (map-at pair (p .sessions) record { user = 0; value = 0 } (0, 0) k h)
-
 module _ (p : Policy) (sound : Sound p) where
   pub sessions-few : sessionValues p ≤ 256
   unfolding sessionValues
@@ -94,11 +59,14 @@ module _ (p : Policy) (sound : Sound p) where
 
   -- values of a file are below the numbers that rows are reckoned by
   pub beginning-below : Below (modelOf p) (beginning p) (sessionValues p) (itemValues p)
-  unfolding modelOf beginning begin sessionValues itemValues itemAt
+  unfolding sessionValues itemValues
   beginning-below = record {
-    sessions = λ v e. listed-narrow (p .lists .ofSession) v e;
-    items = λ o e. listed-narrow (p .lists .ofItem) o e;
-    starting = λ j h. listed-narrow (p .lists .ofItem) (getD (p .items) j 0) (sound .item-value j h);
+    sessions = λ v e. listed-narrow (p .lists .ofSession) v (sym (model-session-listed p v) ∙ e);
+    items = λ o e. listed-narrow (p .lists .ofItem) o (sym (model-item-listed p o) ∙ e);
+    starting =
+        λ j h.
+        rw (beginning-item p j)
+        (listed-narrow (p .lists .ofItem) (getD (p .items) j 0) (sound .item-value j (omega (arith, h, ap length (beginning-items p)))));
   }
 
 module _ (r : Rules) where

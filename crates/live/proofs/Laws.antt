@@ -49,6 +49,10 @@ denied {b} e h = sym e ∙ not-true b h
 
 -- numbers and cells that are left
 
+pub numbers-are : numbers ≡ 1048576
+unfolding numbers
+numbers-are = refl
+
 and-both : (a b : Bool) → (a && b) ≡ true → (a ≡ true) × (b ≡ true)
 and-both true b e = (refl, e)
 and-both false b e = absurd (let z : _≡_ {A = ℕ} 0 1 = cc in omega arith)
@@ -87,6 +91,11 @@ unfolding ofItem
 of-none e s f = rw e refl
 
 -- what a number that is given leaves
+
+pub refused-is : (n : ℕ) (s : Lent) → refused n s ≡ record { refusal = some n; lent = s }
+unfolding refused
+refused-is n s = refl
+
 pub gives : {x : Stepped} {n : ℕ} (sessions items : List ℕ) (next : Next) → x ≡ record { outcome = Outcome.Refused n; next = next }
     → leaves (x .outcome) (x .next) sessions items ≡ refused n (lentAs sessions items next)
 unfolding refused

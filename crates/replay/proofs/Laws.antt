@@ -26,9 +26,11 @@ use Rattle.cells.specs.Row.{partsOf as rowParts, stepOf}
 use Rattle.cells.specs.Cell.{sessionAt, sessionRead}
 use Rattle.cells.specs.declared.row.Row.{Row}
 use Rattle.cells.specs.declared.SessionRead.{SessionRead}
+use Rattle.cells.proofs.Rows.{step-is}
 use Rattle.cells.proofs.Laws.{session-of-read}
-use Rattle.live.specs.Lent.{Lent, After, lentAs, refused}
+use Rattle.live.specs.Lent.{Lent, After, lentAs}
 use Rattle.live.specs.declared.Next.{Next}
+use Rattle.live.proofs.Laws.{refused-is}
 use Rattle.steps.specs.Step.{sessionNow, stepIn}
 use Rattle.steps.proofs.Laws.{session-in}
 use Rattle.starting.specs.Start.{started, nothingGiven}
@@ -132,8 +134,8 @@ module _ (m : Model) (s : Lent) {w : Who} (k : ℕ) where
 pub row-fits : (m : Model) (s : Lent) (q : Question) (row : ℕ) (r : Row) → r ≡ rowParts row →
     stepFits m s q (stepOf (rowParts row))
     ≡ (eqb (r .kind) 6 && eqb (r .value) (q .permission) && whoFits m s (whoOf q) (r .actor) && whichFits (whichOf q) (r .target))
-unfolding stepFits stepOf
-row-fits m s q row r e = rw e refl
+unfolding stepFits
+row-fits m s q row r e = ap (stepFits m s q) (step-is (rowParts row)) ∙ rw e refl
 
 pub none-fits : (m : Model) (s : Lent) (q : Question) (rows : List ℕ) → length rows ≡ 0 → false ≡ lastFits m s q rows
 unfolding lastFits
@@ -232,14 +234,14 @@ leaving e = (ap (λ (x : After). x .refusal) e, (ap (λ (x : After). x .lent .se
 module _ {a : Answer} (question rows sessions items : List ℕ) where
   -- the file is refused
   pub replay-unread : {n : ℕ} → a ≡ refusal n → record { refusal = some n; lent = lentAs sessions items nothingGiven } ≡ replayed a question rows sessions items
-  unfolding replayed refused
-  replay-unread e = rw e refl
+  unfolding replayed
+  replay-unread e = rw e (sym (refused-is _ _))
 
   module _ (p : Policy) (read : a ≡ rules p) where
     -- nothing is asked
     pub replay-unasked : asks p question ≡ false → record { refusal = some 10; lent = lentAs sessions items nothingGiven } ≡ replayed a question rows sessions items
-    unfolding replayed refused
-    replay-unasked e = rw (read, e) refl
+    unfolding replayed
+    replay-unasked e = rw (read, e) (sym (refused-is _ _))
 
     module _ (asking : asks p question ≡ true) where
       play : replayed a question rows sessions items
@@ -250,8 +252,8 @@ module _ {a : Answer} (question rows sessions items : List ℕ) where
       -- the starting cells don't fit
       pub replay-unstarted : {o : Option ℕ} {n : ℕ} {s : Lent} → record { refusal = o; lent = s } ≡ started (rules p) sessions items → o ≡ some n
           → record { refusal = some n; lent = s } ≡ replayed a question rows sessions items
-      unfolding played refused
-      replay-unstarted e d = sym (play ∙ rw (← e, d) refl)
+      unfolding played
+      replay-unstarted e d = sym (play ∙ rw (← e, d) (refused-is _ _))
 
       module _ {o : Option ℕ} {s : Lent} (begun : record { refusal = o; lent = s } ≡ started (rules p) sessions items) (d : o ≡ none) where
         ran : {r : Ran} → r ≡ rowsIn (modelOf p) s 0 rows → replayed a question rows sessions items ≡ judged (modelOf p) (partsOf question) rows (r .refusal) (r .lent)
@@ -261,8 +263,8 @@ module _ {a : Answer} (question rows sessions items : List ℕ) where
         module _ {x : Option ℕ} {k : ℕ} {t : Lent} (e : record { refusal = x; lent = t; count = k } ≡ rowsIn (modelOf p) s 0 rows) where
           -- a row is refused
           pub replay-stopped : {n : ℕ} → x ≡ some n → record { refusal = x; lent = t } ≡ replayed a question rows sessions items
-          unfolding judged refused
-          replay-stopped f = sym (ran e ∙ rw f refl)
+          unfolding judged
+          replay-stopped f = sym (ran e ∙ rw f (refused-is _ _))
 
           module _ (f : x ≡ none) {b : Bool} {q : Question} (h : b ≡ lastFits (modelOf p) t q rows) (g : q ≡ partsOf question) where
             -- the last row fits
@@ -272,5 +274,5 @@ module _ {a : Answer} (question rows sessions items : List ℕ) where
 
             -- it doesn't
             pub replay-missed : b ≡ false → record { refusal = some 17; lent = t } ≡ replayed a question rows sessions items
-            unfolding judged refused
-            replay-missed z = sym (ran e ∙ rw (f, ← g, ← h, z) refl)
+            unfolding judged
+            replay-missed z = sym (ran e ∙ rw (f, ← g, ← h, z) (refused-is _ _))

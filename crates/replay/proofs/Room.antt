@@ -1,26 +1,28 @@
 -- Enough cells and numbers for rows. In order: what a carried out step adds to the counts; what is enough for rows has room for the first and is
 -- enough for the others; starting leaves what is enough for the rows of a leak.
-use mathlib.Core.Path.{_≡_, refl, ap, _∙_}
+use mathlib.Core.Path.{_≡_, refl, sym, ap}
 use mathlib.Core.Bool.{Bool, true, false, cond}
 use mathlib.Core.List.{List, [], _∷_}
 use mathlib.Core.Option.{none}
 use Prim.Native.Nat.{ℕ, _+_, _≤_}
 use native.Mathlib.Omega.{arith}
-use borrow.Author.Tests.{le-leb, eq-eqb}
+use borrow.Author.Tests.{eq-eqb}
 use lib.Dec.{eqb}
-use lib.ListN.{length, length-set, length-append, length-drop, length-map}
+use lib.ListN.{length, length-set, length-append}
 use Rattle.policy.specs.Policy.{Policy}
 use Rattle.rules.specs.Answers.{rules}
 use Rattle.runs.specs.Model.{Model}
-use Rattle.runs.specs.State.{State, begin}
+use Rattle.runs.specs.State.{State}
 use Rattle.runs.specs.Step.{Step, Carried, opens, closes, changes, makes, modifies, grants}
-use Rattle.cells.specs.Row.{stepOf, rowStep}
-use Rattle.live.specs.Lent.{Lent, After, done, numbers}
+use Rattle.cells.specs.Row.{partsOf, rowStep}
+use Rattle.cells.proofs.Rows.{step-is}
+use Rattle.live.specs.Lent.{Lent, numbers}
 use Rattle.live.proofs.Laws.{is-left}
-use Rattle.live.proofs.Outcomes.{tested-all, done-refusal}
 use Rattle.steps.specs.Codes.{Codes, Room}
 use Rattle.steps.proofs.Kept.{Celled}
-use Rattle.starting.specs.Start.{over, sessionCells, itemCells, started, beginning}
+use Rattle.starting.specs.Start.{started, beginning}
+use Rattle.starting.proofs.Beginning.{beginning-long, beginning-items}
+use Rattle.starting.proofs.Exact.{enough-starts, started-sessions, started-items}
 use Rattle.replay.specs.Claims.{ofKind, Enough, NumbersLeft}
 
 -- the counts
@@ -72,8 +74,8 @@ pub record Ample (s : Lent) (t : State) (rows : List ℕ) : Type 0 where
   pub item-numbers : length (t .items) + ofKind 4 rows ≤ numbers
 
 kind-more : (k row : ℕ) (rows : List ℕ) → ofKind k (row ∷ rows) ≡ one (rowStep row .kind) k + ofKind k rows
-unfolding ofKind one stepOf
-kind-more k row rows = refl
+unfolding ofKind one
+kind-more k row rows = ap (λ (n : ℕ). one n k + ofKind k rows) (ap (λ (p : Step). p .kind) (sym (step-is (partsOf row))))
 
 module _ (m : Model) (s : Lent) (t : State) (row : ℕ) (rows : List ℕ) (a : Ample s t (row ∷ rows)) where
   pub ample-room : Codes m s t → Room s (rowStep row)
@@ -111,35 +113,23 @@ kind-few k (row ∷ rows) = let e = kind-more k row rows in omega (arith, one-fe
 
 -- starting
 
-over-length : (l cells : List ℕ) → length l ≤ length cells → length (over l cells) ≡ length cells
-unfolding over
-over-length l cells h = simp (length-append, length-drop) (omega arith)
-
 module _ (p : Policy) (rows sessions items : List ℕ) (e : Enough p rows (length sessions) (length items)) where
-  started-done : started (rules p) sessions items
-      ≡ done
-      record {
-        sessions = over (sessionCells (p .sessions)) sessions;
-        items = over (itemCells (p .items)) items;
-        next = record { session = length (p .sessions); item = length (p .items) };
-      }
-  unfolding started
-  started-done =
-      tested-all _ _ _ (
-        le-leb (length (p .sessions)) (length sessions) (omega (arith, e .session-cells)),
-        (le-leb (length (p .items)) (length items) (omega (arith, e .item-cells)), tt),
-      )
+  session-cells-enough : length (p .sessions) ≤ length sessions
+  session-cells-enough = omega (arith, e .session-cells)
 
-  pub enough-starts : started (rules p) sessions items .refusal ≡ none
-  enough-starts = ap (λ (a : After). a .refusal) started-done ∙ done-refusal _
+  item-cells-enough : length (p .items) ≤ length items
+  item-cells-enough = omega (arith, e .item-cells)
 
-  pub enough-ample : NumbersLeft p rows → Ample (started (rules p) sessions items .lent) (beginning p) rows
-  unfolding done sessionCells itemCells beginning begin
-  enough-ample n =
-      rw started-done
+  pub rows-start : started (rules p) sessions items .refusal ≡ none
+  rows-start = enough-starts p sessions items session-cells-enough item-cells-enough
+
+  pub rows-ample : NumbersLeft p rows → Ample (started (rules p) sessions items .lent) (beginning p) rows
+  rows-ample n =
+      let sessions-long = beginning-long p in
+      let items-long = ap length (beginning-items p) in
       record {
-        session-cells = rw (over-length (sessionCells (p .sessions)) sessions (simp length-map (omega (arith, e .session-cells)))) (simp length-map (e .session-cells));
-        item-cells = rw (over-length (itemCells (p .items)) items (simp length-map (omega (arith, e .item-cells)))) (e .item-cells);
-        session-numbers = simp length-map (n .session-numbers);
-        item-numbers = n .item-numbers;
+        session-cells = omega (arith, e .session-cells, sessions-long, started-sessions p sessions items session-cells-enough item-cells-enough);
+        item-cells = omega (arith, e .item-cells, items-long, started-items p sessions items session-cells-enough item-cells-enough);
+        session-numbers = omega (arith, n .session-numbers, sessions-long);
+        item-numbers = omega (arith, n .item-numbers, items-long);
       }

@@ -37,7 +37,7 @@ use Rattle.replay.specs.Claims.{Enough, NumbersLeft, AskedLeak, ReplayIs
 use Rattle.replay.specs.declared.question.Question.{Question}
 use Rattle.replay.proofs.Asked.{asks-asked, asked-asks, of-parts}
 use Rattle.replay.proofs.Laws.{none-fits, last-is, replay-shown}
-use Rattle.replay.proofs.Room.{Ample, ample-room, ample-after, enough-starts, enough-ample}
+use Rattle.replay.proofs.Room.{Ample, ample-room, ample-after, rows-start, rows-ample}
 
 -- what fits
 
@@ -275,8 +275,8 @@ module _ (file : List ℕ) (p : Policy) (read : reading file ≡ rules p) (quest
   complete : asks p question ≡ true → Leaks rows → Enough p rows (length sessions) (length items) → NumbersLeft p rows
       → replayed (reading file) question rows sessions items .refusal ≡ none
   complete a l e n =
-      let d = enough-starts p rows sessions items e in
-      let x = shown (modelOf p) (files-are-bytes file p read) rows s (beginning p) (l .state) (begun d) (enough-ample p rows sessions items e n) (leak-carried l) (l .plain) 0 in
+      let d = rows-start p rows sessions items e in
+      let x = shown (modelOf p) (files-are-bytes file p read) rows s (beginning p) (l .state) (begun d) (rows-ample p rows sessions items e n) (leak-carried l) (l .plain) 0 in
       let u = rowsIn (modelOf p) s 0 rows .lent in
       let f = last-row (modelOf p) u q rows (l .before) (l .last) (l .rows-are) ∙ run-fits (modelOf p) q (rowStep (l .last)) u (l .state) (x .codes) (l .fits) in
       sym (ap (λ (y : After). y .refusal) (replay-shown question rows sessions items p read a refl d refl (x .refusal) (sym f) refl refl))

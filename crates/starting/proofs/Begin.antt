@@ -1,15 +1,15 @@
--- Starting leaves cells that code the beginning of the file's runs. In order: lists; the starting cells read as the beginning stands.
+-- Starting leaves cells that code the beginning of the file's runs. In order: cells over the front of others; the starting cells read as the beginning stands.
 use mathlib.Core.Path.{_≡_, refl, sym, ap, _∙_, subst}
-use mathlib.Core.List.{List, [], _∷_, map}
+use mathlib.Core.List.{List}
 use mathlib.Core.Option.{none, some}
-use Prim.Native.Nat.{ℕ, zero, suc, _≤_, _<_}
+use Prim.Native.Nat.{ℕ, _≤_, _<_}
 use native.Mathlib.Decide.{decLt}
 use native.Mathlib.Omega.{arith}
-use lib.ListN.{length, getD, drop, length-map, length-append, List·getD-append, List·getD-eq-default}
+use lib.ListN.{length, getD, drop, length-map, length-append, List·getD-append}
 use Rattle.policy.specs.Policy.{Session, Policy}
 use Rattle.rules.specs.Answers.{Answer, reading, rules}
 use Rattle.lists.specs.Sound.{Sound, startingSession}
-use Rattle.runs.specs.State.{closed, opened, begin, sessionAt, itemAt as valueAt}
+use Rattle.runs.specs.State.{begin, sessionAt, itemAt as valueAt}
 use Rattle.allowed.specs.Allowed.{modelOf}
 use Rattle.cells.specs.Cell.{openCell, itemCell}
 use Rattle.cells.proofs.Laws.{placeOf-is, session-there, session-past, item-there}
@@ -19,11 +19,7 @@ use Rattle.steps.specs.Step.{sessionNow, itemNow}
 use Rattle.steps.specs.Codes.{Bytes, Codes}
 use Rattle.steps.proofs.Files.{file-sound, file-bytes}
 use Rattle.starting.specs.Start.{over, sessionCells, itemCells, started, beginning}
-
-map-at : {A B : Type 0} (f : A → B) (l : List A) (d : A) (e : B) (k : ℕ) → k < length l → getD (map f l) k e ≡ f (getD l k d)
-map-at f [] d e k h = absurd (omega arith)
-map-at f (x ∷ l) d e zero h = refl
-map-at f (x ∷ l) d e (suc k) h = map-at f l d e k (omega arith)
+use Rattle.starting.proofs.Beginning.{map-at, beginning-long, beginning-session, beginning-past}
 
 -- a place at the front
 over-at : (l cells : List ℕ) (k : ℕ) → k < length l → getD (over l cells) k 0 ≡ getD l k 0
@@ -44,7 +40,7 @@ module _ (p : Policy) (sound : Sound p) (bytes : Bytes (modelOf p)) (sessions it
       }
 
   session-begins : (k : ℕ) → Dec (k < length (p .sessions)) → sessionNow (modelOf p) lent k ≡ sessionAt (beginning p) k
-  unfolding sessionNow sessionAt beginning begin sessionCells modelOf startingSession
+  unfolding sessionNow sessionCells modelOf startingSession
   session-begins k (yes h) =
       let t = startingSession p k in
       let cells = over (sessionCells (p .sessions)) sessions in
@@ -53,9 +49,6 @@ module _ (p : Policy) (sound : Sound p) (bytes : Bytes (modelOf p)) (sessions it
       let i : k < length (sessionCells (p .sessions)) = omega arith in
       let known : t .user < length (p .users) = sound .session-user k h in
       let value = sound .session-value k h in
-      let pair : Session → ℕ × ℕ = λ t. (t .user, t .value) in
-      let pairs = map pair (p .sessions) in
-      let m : length pairs ≡ length (p .sessions) = length-map (p .sessions) pair in
       session-there (modelOf p .users) (modelOf p .sessionValue) cells (length (p .sessions)) k (t .user) (t .value)
       (omega (arith, known, sound .users)) (bytes .sessions (t .value) value)
       record {
@@ -68,17 +61,11 @@ module _ (p : Policy) (sound : Sound p) (bytes : Bytes (modelOf p)) (sessions it
         known = known;
         in-lists = value;
       }
-      ∙ sym
-      (map-at (λ (x : ℕ × ℕ). opened (x .0) (x .1)) pairs (0, 0) closed k (omega (arith, h, m))
-      ∙ ap (λ (x : ℕ × ℕ). opened (x .0) (x .1)) (map-at pair (p .sessions) record { user = 0; value = 0 } (0, 0) k h))
+      ∙ sym (beginning-session p k h)
   session-begins k (no h) =
       let past : length (p .sessions) ≤ k = omega arith in
-      let pair : Session → ℕ × ℕ = λ t. (t .user, t .value) in
-      let pairs = map pair (p .sessions) in
-      let m : length pairs ≡ length (p .sessions) = length-map (p .sessions) pair in
-      let l = map (λ (x : ℕ × ℕ). opened (x .0) (x .1)) pairs in
       session-past (modelOf p .users) (modelOf p .sessionValue) (over (sessionCells (p .sessions)) sessions) (length (p .sessions)) k past
-      ∙ sym (List·getD-eq-default l closed {n = k} (omega (arith, past, m, length-map pairs (λ (x : ℕ × ℕ). opened (x .0) (x .1)))))
+      ∙ sym (beginning-past p k past)
 
   item-begins : (k : ℕ) → k < length (p .items) → itemNow (modelOf p) lent k ≡ some (valueAt (beginning p) k)
   unfolding itemNow valueAt beginning begin itemCells modelOf
@@ -99,10 +86,8 @@ module _ (p : Policy) (sound : Sound p) (bytes : Bytes (modelOf p)) (sessions it
   codes-beginning : Codes (modelOf p) lent (beginning p)
   unfolding beginning begin numbers
   codes-beginning =
-      let pair : Session → ℕ × ℕ = λ t. (t .user, t .value) in
       record {
-        session-count =
-            sym (length-map (map pair (p .sessions)) (λ (x : ℕ × ℕ). opened (x .0) (x .1)) ∙ length-map (p .sessions) pair);
+        session-count = sym (beginning-long p);
         item-count = refl;
         session-numbers = omega (arith, sound .sessions);
         item-numbers = omega (arith, sound .items);

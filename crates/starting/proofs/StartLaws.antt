@@ -7,8 +7,9 @@ use native.Mathlib.Numerals.{add-one}
 use native.Mathlib.Omega.{arith}
 use borrow.Author.Tests.{le-leb, lt-leb}
 use lib.Dec.{leb}
-use lib.ListN.{length, drop, getD, set, length-append, length-map}
+use lib.ListN.{length, drop, getD, set, length-append, length-drop, length-map}
 use lib.Seq.{drop-cons, set-at}
+use Rattle.policy.specs.Policy.{Session}
 use Rattle.policy.specs.Rules.{sessionsOf, valuesOf, policyOf, noRules}
 use Rattle.policy.specs.declared.Rules.{Rules}
 use Rattle.policy.specs.declared.Sessions.{Sessions}
@@ -39,6 +40,11 @@ over-next l cells x h =
     ∙ sym (append-assoc l (x ∷ []) (drop (suc (length l)) cells))
     ∙ ap (λ (k : ℕ). (l ++ x ∷ []) ++ drop k cells) n
 
+-- as many cells as there were
+pub over-length : (l cells : List ℕ) → length l ≤ length cells → length (over l cells) ≡ length cells
+unfolding over
+over-length l cells h = simp (length-append, length-drop) (omega arith)
+
 -- one more cell is written
 pub over-more : (l m before cells : List ℕ) (i x y : ℕ) → cells ≡ over l before → length l ≡ i → i < length before → m ≡ l ++ y ∷ [] → x ≡ y → set cells i x ≡ over m before
 over-more l m before cells i x y e n h d f =
@@ -64,9 +70,12 @@ pub session-cells-more : (t : Sessions) (i : ℕ) →
 unfolding sessionCells
 session-cells-more t i = ap sessionCells (sessions-next t i) ∙ map-one-more _ (sessionsOf record { count = i; users = t .users; values = t .values }) record { user = getD (t .users) i 0; value = getD (t .values) i 0 }
 
-pub session-cells-length : (t : Sessions) → length (sessionCells (sessionsOf t)) ≡ t .count
+pub session-cells-long : (l : List Session) → length (sessionCells l) ≡ length l
 unfolding sessionCells
-session-cells-length t = length-map (sessionsOf t) _ ∙ sessions-length t
+session-cells-long l = length-map l _
+
+pub session-cells-length : (t : Sessions) → length (sessionCells (sessionsOf t)) ≡ t .count
+session-cells-length t = session-cells-long (sessionsOf t) ∙ sessions-length t
 
 pub item-cells-none : (values : List ℕ) → itemCells (valuesOf record { count = 0; values = values }) ≡ []
 unfolding itemCells
@@ -77,9 +86,12 @@ pub item-cells-more : (t : Values) (i : ℕ) →
 unfolding itemCells
 item-cells-more t i = ap itemCells (values-next t i) ∙ map-one-more itemCell (valuesOf record { count = i; values = t .values }) (getD (t .values) i 0)
 
-pub item-cells-length : (t : Values) → length (itemCells (valuesOf t)) ≡ t .count
+pub item-cells-long : (l : List ℕ) → length (itemCells l) ≡ length l
 unfolding itemCells
-item-cells-length t = length-map (valuesOf t) itemCell ∙ values-length t
+item-cells-long l = length-map l itemCell
+
+pub item-cells-length : (t : Values) → length (itemCells (valuesOf t)) ≡ t .count
+item-cells-length t = item-cells-long (valuesOf t) ∙ values-length t
 
 -- what starting answers
 

@@ -15,11 +15,7 @@ use lib.Seq.{ext-getD, getD-set-same, getD-set-other}
 use Rattle.bits.specs.Packed.{tab}
 use Rattle.bits.proofs.Packed.{length-tab, getD-tab}
 use Rattle.lanes.specs.Lanes.{laneOf, someBelow}
-use Rattle.policy.specs.Rules.{policyOf}
-use Rattle.policy.specs.declared.Rules.{Rules}
-use Rattle.policy.proofs.Laws.{values-length}
 use Rattle.runs.specs.Model.{Model}
-use Rattle.allowed.specs.Allowed.{modelOf}
 use Rattle.search.specs.Queue.{nothing}
 use Rattle.search.specs.Sessions.{sessionsFound}
 use Rattle.search.specs.declared.queue.Found.{Found}
@@ -27,10 +23,6 @@ use Rattle.search.proofs.Turns.{chosen, nothing-len}
 use Rattle.search.proofs.Theorems.{sessions-are-searched}
 use Rattle.leak.specs.Standing.{named}
 use Rattle.user_searches.specs.Found.{userFound, UsersFound, anyHas, Names, nameAfter, foundPairs}
-
-pub model-users : (r : Rules) → modelOf (policyOf r) .users ≡ r .users .count
-unfolding modelOf policyOf
-model-users r = values-length (r .users)
 
 -- the searches of the users below u are there
 pub record Searching (m : Model) (n : ℕ) (users : List Found) (u : ℕ) : Type 0 where

@@ -7,11 +7,11 @@ use native.Mathlib.Omega.{arith}
 use Rattle.policy.specs.Rules.{policyOf}
 use Rattle.allowed.specs.Allowed.{modelOf}
 use Rattle.runs.specs.Model.{Model}
-use Rattle.allowed.proofs.ModelLaws.{basis-model, basis-lists}
+use Rattle.allowed.proofs.ModelLaws.{model-users, basis-model, basis-lists}
 use Rattle.search.specs.Queue.{nothing}
 use Rattle.search.specs.Sessions.{sessionsFound}
 use Rattle.search.specs.declared.queue.Found.{Found}
-use Rattle.user_searches.proofs.Laws.{Searching, searching-none, searching-stays, searching-more, searching-all, model-users}
+use Rattle.user_searches.proofs.Laws.{Searching, searching-none, searching-stays, searching-more, searching-all}
 use borrow.Author.Needs.{needs}
 use Rattle.user_searches.proofs.search_users.Statement.{statement}
 use Rattle.user_searches.proofs.search_users.Tie as tie

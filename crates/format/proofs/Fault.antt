@@ -115,10 +115,6 @@ judged-true c false n h e = go (decLt 0 (c .number))
     go (yes k) = absurd (omega (arith, ap (λ (x : Cursor). x .number) (judged-before c false n k)))
     go (no k) = absurd (omega (arith, ap (λ (x : Cursor). x .number) (judged-fails c n (omega arith))))
 
--- and the cursor is as it was
-pub judged-same : (c : Cursor) (b : Bool) (n : ℕ) → 0 < n → judged c b n .number ≡ 0 → judged c b n ≡ c
-judged-same c b n h e = ap (λ (x : Bool). judged c x n) (judged-true c b n h e) ∙ judged-holds c n
-
 pub fault-judged : (c : Cursor) (b : Bool) (n : ℕ) → 0 < n → faultOf (judged c b n .number) ≡ first (faultOf (c .number)) (unless b n)
 unfolding unless
 fault-judged c b n h = go b (decLt 0 (c .number))

@@ -9,7 +9,7 @@ use lib.ListN.{length}
 use Rattle.format.specs.Format.{Format, first, unlessFault, rowsJudge, rowsKept}
 use Rattle.format.specs.Steps.{faultOf, keptFrom}
 use Rattle.format.specs.declared.Cursor.{Cursor}
-use Rattle.format.proofs.Fault.{fault-none, fault-some}
+use Rattle.format.proofs.Fault.{fault-none}
 
 pub unlessFault-none : (x : Option ℕ) (fs : List (ℕ × ℕ)) → x ≡ none → unlessFault x fs ≡ fs
 unfolding unlessFault
@@ -43,11 +43,6 @@ module _ {A : Type 0} (f : Format A) (a : A) (c : Cursor) where
   pub kept-start : c .number ≡ 0 → keptFrom c f a ≡ f .kept a
   unfolding keptFrom
   kept-start z = unlessFault-none (faultOf (c .number)) (f .kept a) (fault-none (c .number) z)
-
-  -- a number was given before
-  pub kept-stays : 0 < c .number → keptFrom c f a ≡ []
-  unfolding keptFrom unlessFault
-  kept-stays h = ap (λ (x : Option ℕ). unlessFault x (f .kept a)) (fault-some (c .number) h)
 
 module _ {A B C : Type 0} (f : Format A) (g : Format B) (h : Format C) (a : A) (b : B) (d : C) (c₀ c₁ : Cursor) where
   -- one step, then another from where it ended

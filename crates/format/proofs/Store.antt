@@ -18,8 +18,8 @@ use Rattle.format.specs.Format.{Format, unless, first, unlessFault, fiel
 use Rattle.format.specs.File.{bytes, refused, bytesOr, writeFile}
 use Rattle.format.specs.Steps.{judged, faultOf, keptFrom, Stores}
 use Rattle.format.specs.declared.Cursor.{Cursor}
-use Rattle.format.proofs.Fault.{first-none, first-left, first-right, first-assoc, fault-none, fault-some, fault-stays, judged-pos, fault-judged}
-use Rattle.format.proofs.Kept.{unlessFault-empty, kept-start, kept-stays, kept-then, rows-kept-more}
+use Rattle.format.proofs.Fault.{first-none, first-left, first-right, first-assoc, fault-none, fault-some, judged-pos, fault-judged}
+use Rattle.format.proofs.Kept.{unlessFault-empty, kept-start, kept-then, rows-kept-more}
 use Rattle.format.proofs.Law.{Lawful}
 
 module _ {A : Type 0} {f : Format A} {a : A} {o o′ : List ℕ} {c₀ c₁ : Cursor} where
@@ -29,18 +29,6 @@ module _ {A : Type 0} {f : Format A} {a : A} {o o′ : List ℕ} {c₀ c₁ : Cu
 
   pub stores-length : Stores f a o o′ c₀ c₁ → length o′ ≡ length o
   stores-length h = ap length (h .stored) ∙ length-puts o (c₀ .pos) (keptFrom c₀ f a)
-
-module _ {A : Type 0} (f : Format A) (a : A) (o : List ℕ) (c : Cursor) where
-  -- a number given before stays, and so do the place and the bytes
-  pub stores-skip : 0 < c .number → Stores f a o o c c
-  unfolding widths puts
-  stores-skip h =
-      let e : keptFrom c f a ≡ [] = kept-stays f a c h in
-      record {
-        fault = sym (fault-stays (c .number) (f .judge a) h);
-        place = omega (arith, ap widths e);
-        stored = sym (ap (puts o (c .pos)) e);
-      }
 
 module _ {A B C : Type 0} (f : Format A) (g : Format B) (h : Format C) {a : A} {b : B} {d : C} {o₀ o₁ o₂ : List ℕ} {c₀ c₁ c₂ : Cursor} where
   -- one step, then another

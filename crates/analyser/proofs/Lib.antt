@@ -9,4 +9,5 @@ pub mod LeakMeans  -- the rows that are left are a leak of the run, and few
 pub mod Decides  -- what the published promise of an answer rests on
 pub mod Refusals  -- answers that give a number
 pub mod Numbers  -- the numbers and verdicts of an answer, by relations
+pub mod Few  -- how large the counts of an answer are
 pub mod Theorems  -- the claims

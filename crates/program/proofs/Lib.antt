@@ -1,0 +1,2 @@
+pub mod Laws  -- inputs by their length
+pub mod Theorems  -- the claims

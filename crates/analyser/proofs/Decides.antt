@@ -35,7 +35,8 @@ use Rattle.replay.proofs.Asked.{of-asked}
 use Rattle.replay.proofs.Room.{kind-few}
 use Rattle.replay.proofs.Theorems.{question-is-asked, replay-is-the-run}
 use Rattle.search.specs.declared.queue.Found.{Found}
-use Rattle.analyser.specs.Answer.{sessionValues, itemValues, rowsNeeded, noVerdict, safeVerdict, leakVerdict, Told, toldOf, refused, startsBrought, decided, told}
+use Rattle.analyser.specs.Told.{noVerdict, safeVerdict, leakVerdict, Told, toldOf, refused}
+use Rattle.analyser.specs.Answer.{sessionValues, itemValues, rowsNeeded, startsBrought, decided, told}
 use Rattle.user_searches.specs.Found.{UsersFound, anyHas}
 use Rattle.analyser.specs.Decide.{rowsFor, startsFound, leakPlace, LeakLeft, DecidedBy}
 use Rattle.goal.specs.Asked.{itemFound}

@@ -15,7 +15,8 @@ use Rattle.steps.proofs.Files.{file-sound}
 use Rattle.starting.specs.Start.{beginning}
 use Rattle.replay.specs.Question.{partsOf, whoOf, whichOf, asks}
 use Rattle.replay.proofs.Theorems.{question-is-asked}
-use Rattle.analyser.specs.Answer.{rowsNeeded, sessionValues, itemValues, noVerdict, safeVerdict, leakVerdict, Told, refused, startsBrought, decided, told}
+use Rattle.analyser.specs.Told.{noVerdict, safeVerdict, leakVerdict, Told, refused}
+use Rattle.analyser.specs.Answer.{rowsNeeded, sessionValues, itemValues, startsBrought, decided, told}
 use Rattle.analyser.specs.Never.{StartCould, StartCouldNot, AsksSomething, RowsEnough, RowsTooFew}
 use Rattle.analyser.proofs.Decides.{refused-none, told-nine, told-ten, told-eleven, told-decided, refused-file-is-told}
 use Rattle.analyser.proofs.Starts.{starts-could, one-could-not, not-all}
@@ -55,6 +56,10 @@ came file question room t e = read (reading file) refl
 refused-number : (n : ℕ) → refused n .number ≡ n
 unfolding refused
 refused-number n = refl
+
+refused-counts : (n : ℕ) → (refused n .pairs ≡ 0) × (refused n .values ≡ 0)
+unfolding refused
+refused-counts n = (refl, refl)
 
 pub decided-number : (p : Policy) (question : List ℕ) → decided p question .number ≡ 0
 unfolding decided
@@ -120,6 +125,56 @@ module _ (file question : List ℕ) (room : ℕ) (t : Told) (e : t ≡ told (rea
         go false x = x
         go true x = absurd (not-all p (file-sound file p r) n x)
 
+  counts-are : {n : ℕ} → t ≡ refused n → (t .pairs ≡ 0) × (t .values ≡ 0)
+  counts-are {n} x = (ap (λ (y : Told). y .pairs) x ∙ refused-counts n .0, ap (λ (y : Told). y .values) x ∙ refused-counts n .1)
+
+  verdict-is : {n : ℕ} → t ≡ refused n → t .verdict ≡ noVerdict
+  verdict-is {n} x = ap (λ (y : Told). y .verdict) x ∙ refused-none n
+
+  judged-verdict : (p : Policy) → t ≡ decided p question → t .verdict ≡ noVerdict → ⊥
+  judged-verdict p x z = neither (decided p question .verdict) (decided-two p question) (sym (ap (λ (y : Told). y .verdict) x) ∙ z)
+    where
+      neither : (v : ℕ) → (v ≡ safeVerdict) ⊎ (v ≡ leakVerdict) → v ≡ noVerdict → ⊥
+      neither v (inl x) z = omega arith
+      neither v (inr x) z = omega arith
+
+  pub is-of-file : (k : ℕ) → 1 ≤ k → k ≤ 8 → (t .number ≡ k) ↔ (reading file ≡ refusal k)
+  is-of-file k low high = (forth (came file question room t e), λ r. number-is (e ∙ refused-file-is-told file question room k r))
+    where
+      forth : Came file question room t → t .number ≡ k → reading file ≡ refusal k
+      forth (unread n r x) y = r ∙ ap refusal (sym (number-is x) ∙ y)
+      forth (nine p r b x) y = absurd (omega (arith, number-is x))
+      forth (ten p r b a x) y = absurd (omega (arith, number-is x))
+      forth (eleven p r b a l x) y = absurd (omega (arith, number-is x))
+      forth (judged p r b a l x) y = absurd (omega (arith, judged-number p x))
+
+  pub is-either : (t .number ≡ 0) ↔ (t .verdict ≡ noVerdict → ⊥)
+  is-either = (forth (came file question room t e), back (came file question room t e))
+    where
+      forth : Came file question room t → t .number ≡ 0 → t .verdict ≡ noVerdict → ⊥
+      forth (unread n r x) y = λ z. omega (arith, number-is x, reading-numbers file n r .0)
+      forth (nine p r b x) y = λ z. omega (arith, number-is x)
+      forth (ten p r b a x) y = λ z. omega (arith, number-is x)
+      forth (eleven p r b a l x) y = λ z. omega (arith, number-is x)
+      forth (judged p r b a l x) y = judged-verdict p x
+
+      back : Came file question room t → (t .verdict ≡ noVerdict → ⊥) → t .number ≡ 0
+      back (unread n r x) y = absurd (y (verdict-is x))
+      back (nine p r b x) y = absurd (y (verdict-is x))
+      back (ten p r b a x) y = absurd (y (verdict-is x))
+      back (eleven p r b a l x) y = absurd (y (verdict-is x))
+      back (judged p r b a l x) y = judged-number p x
+
+  pub is-empty : t .verdict ≡ noVerdict → (t .pairs ≡ 0) × (t .values ≡ 0)
+  is-empty = go (came file question room t e)
+    where
+      go : Came file question room t → t .verdict ≡ noVerdict → (t .pairs ≡ 0) × (t .values ≡ 0)
+      go (unread n r x) z = counts-are x
+      go (nine p r b x) z = counts-are x
+      go (ten p r b a x) z = counts-are x
+      go (eleven p r b a l x) z = counts-are x
+      go (judged p r b a l x) z = absurd (judged-verdict p x z)
+
   pub is-nine : (t .number ≡ 9) ↔ ((p : Policy) × (reading file ≡ rules p) × StartCouldNot p)
   is-nine = (forth (came file question room t e), λ (p, r, n). number-is (told-as p r (told-nine p question room (not-false p r n))))
     where
@@ -162,21 +217,11 @@ module _ (file question : List ℕ) (room : ℕ) (t : Told) (e : t ≡ told (rea
   is-decided p r c s l = told-as p r (told-decided p question room (could-true p r c) (asks-is p question .1 s) (enough-is p room .0 l))
 
   pub is-judged : (t .verdict ≡ noVerdict → ⊥) ↔ ((p : Policy) × (reading file ≡ rules p) × StartCould p × AsksSomething p question × RowsEnough p room)
-  is-judged = (forth (came file question room t e), λ (p, r, c, s, l). some p (is-decided p r c s l))
+  is-judged = (forth (came file question room t e), λ (p, r, c, s, l). judged-verdict p (is-decided p r c s l))
     where
-      none-is : (n : ℕ) → t ≡ refused n → t .verdict ≡ noVerdict
-      none-is n x = ap (λ (y : Told). y .verdict) x ∙ refused-none n
-
       forth : Came file question room t → (t .verdict ≡ noVerdict → ⊥) → (p : Policy) × (reading file ≡ rules p) × StartCould p × AsksSomething p question × RowsEnough p room
-      forth (unread n r x) y = absurd (y (none-is n x))
-      forth (nine p r b x) y = absurd (y (none-is 9 x))
-      forth (ten p r b a x) y = absurd (y (none-is 10 x))
-      forth (eleven p r b a l x) y = absurd (y (none-is 11 x))
+      forth (unread n r x) y = absurd (y (verdict-is x))
+      forth (nine p r b x) y = absurd (y (verdict-is x))
+      forth (ten p r b a x) y = absurd (y (verdict-is x))
+      forth (eleven p r b a l x) y = absurd (y (verdict-is x))
       forth (judged p r b a l x) y = (p, r, true-could p r b, asks-is p question .0 a, enough-is p room .1 l)
-
-      neither : (v : ℕ) → (v ≡ safeVerdict) ⊎ (v ≡ leakVerdict) → v ≡ noVerdict → ⊥
-      neither v (inl x) z = omega arith
-      neither v (inr x) z = omega arith
-
-      some : (p : Policy) → t ≡ decided p question → t .verdict ≡ noVerdict → ⊥
-      some p x z = neither (decided p question .verdict) (decided-two p question) (sym (ap (λ (y : Told). y .verdict) x) ∙ z)

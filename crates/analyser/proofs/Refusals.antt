@@ -4,7 +4,8 @@ use mathlib.Core.List.{List}
 use Prim.Native.Nat.{ℕ}
 use lib.ListN.{length}
 use Rattle.rules.specs.Answers.{reading}
-use Rattle.analyser.specs.Answer.{Told, told, refused}
+use Rattle.analyser.specs.Told.{Told, refused}
+use Rattle.analyser.specs.Answer.{told}
 use Rattle.analyser.specs.Means.{Means}
 use Rattle.analyser.specs.declared.Answer.{Answer}
 use Rattle.analyser.specs.declared.Verdict.the-variants as Verdict

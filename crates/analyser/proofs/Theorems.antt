@@ -22,14 +22,15 @@ use Rattle.starting.specs.Start.{beginning}
 use Rattle.starting.proofs.Theorems.{start-is-exact}
 use Rattle.replay.specs.Question.{partsOf, whoOf, whichOf, asks}
 use Rattle.replay.proofs.Asked.{of-asked, of-parts}
-use Rattle.analyser.specs.Answer.{sessionValues, itemValues, noVerdict, safeVerdict, leakVerdict, Told, refused, startsBrought, decided, told}
+use Rattle.analyser.specs.Told.{noVerdict, safeVerdict, leakVerdict, Told, refused}
+use Rattle.analyser.specs.Answer.{sessionValues, itemValues, startsBrought, decided, told}
 use Rattle.analyser.specs.Never.{Never, AsksSomething}
-use Rattle.analyser.specs.Claims.{Demand3, SafeIsNever, NineIsExact, TenIsExact, ElevenIsExact, AcceptedIsJudged}
+use Rattle.analyser.specs.Claims.{Demand3, SafeIsNever, FileNumbersComeFirst, NineIsExact, TenIsExact, ElevenIsExact, AcceptedIsJudged}
 use Rattle.analyser.proofs.Widths.{beginning-below}
 use Rattle.analyser.proofs.Asked.{asks-something, asked-who, asked-which}
 use Rattle.analyser.proofs.Decides.{refused-none, rules-same}
 use Rattle.analyser.proofs.Starts.{brought-of, starts-could}
-use Rattle.analyser.proofs.Numbers.{Came, unread, nine, ten, eleven, judged, came, asks-is, decided-two, is-nine, is-ten, is-eleven, is-decided, is-judged}
+use Rattle.analyser.proofs.Numbers.{Came, unread, nine, ten, eleven, judged, came, asks-is, decided-two, is-of-file, is-either, is-empty, is-nine, is-ten, is-eleven, is-decided, is-judged}
 
 safe-not : (b : Bool) → cond b leakVerdict safeVerdict ≡ safeVerdict → b ≡ true → ⊥
 safe-not false e t = let z : _≡_ {A = ℕ} 0 1 = cc in omega arith
@@ -107,6 +108,17 @@ demand3 file question before after t n M p r could who which permission A enough
     }
 
 -- the numbers
+
+pub file-numbers-come-first : FileNumbersComeFirst
+file-numbers-come-first file question before after t n M =
+    record {
+      file-number = is-of-file file question (length before) t (M .answer);
+      either = is-either file question (length before) t (M .answer);
+      empty = λ z.
+          let c = is-empty file question (length before) t (M .answer) z in
+          let r = M .rows-none (λ l. omega arith) in
+          (c .0, c .1, r .0, r .1);
+    }
 
 pub nine-is-exact : NineIsExact
 nine-is-exact file question before after t n M = is-nine file question (length before) t (M .answer)

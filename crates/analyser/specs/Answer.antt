@@ -10,8 +10,7 @@ use Rattle.verdict.specs.Verdict.{allBrought, pairs, leaks, values}
 use Rattle.allowed.specs.Allowed.{modelOf}
 use Rattle.starting.specs.Start.{beginning}
 use Rattle.replay.specs.Question.{partsOf, whoOf, whichOf, asks}
-use Rattle.analyser.specs.declared.Verdict.{Verdict}
-use Rattle.analyser.specs.declared.Verdict.the-variants as Verdict
+use Rattle.analyser.specs.Told.{safeVerdict, leakVerdict, Told, refused}
 
 -- how many values a class of s bits has room for
 unfoldable pub sessionValues : Policy → ℕ
@@ -23,33 +22,6 @@ itemValues p = 2 ^ width (p .lists .ofItem)
 -- the rows that a leak may need [01:The question 5]
 unfoldable pub rowsNeeded : Policy → ℕ
 rowsNeeded p = sessionValues p + itemValues p * (sessionValues p + 1) + 1
-
--- verdicts as values: none, where a number is given; safe; leak
-abbrev pub noVerdict : ℕ
-noVerdict = 0
-
-abbrev pub safeVerdict : ℕ
-safeVerdict = 1
-
-abbrev pub leakVerdict : ℕ
-leakVerdict = 2
-
--- the answer without the rows: the number that is given, 0 for none; the verdict; both counts
-pub record Told : Type 0 where
-  pub number : ℕ
-  pub verdict : ℕ
-  pub pairs : ℕ
-  pub values : ℕ
-
--- [01:How each place should look, "Where an answer is an enum"]: what each case of the program's verdict stands for, with the counts beside it
-unfoldable pub toldOf : Verdict → ℕ → ℕ → Told
-toldOf Verdict.Safe pairs values = record { number = 0; verdict = safeVerdict; pairs = pairs; values = values }
-toldOf Verdict.Leak pairs values = record { number = 0; verdict = leakVerdict; pairs = pairs; values = values }
-toldOf (Verdict.Refused n) pairs values = record { number = n; verdict = noVerdict; pairs = pairs; values = values }
-
--- a number is given, and the counts are 0
-unfoldable pub refused : ℕ → Told
-refused n = record { number = n; verdict = noVerdict; pairs = 0; values = 0 }
 
 -- every starting session could have been brought about by its user
 unfoldable pub startsBrought : Policy → Bool

@@ -4,11 +4,11 @@
 use mathlib.Core.Path.{_≡_}
 use mathlib.Core.Logic.{_⊎_, _↔_}
 use mathlib.Core.List.{List}
-use Prim.Native.Nat.{ℕ}
+use Prim.Native.Nat.{ℕ, _≤_}
 use lib.ListN.{length, take}
 use Rattle.format.specs.File.{bytes}
 use Rattle.policy.specs.Policy.{Policy}
-use Rattle.rules.specs.Answers.{reading, rules, writing}
+use Rattle.rules.specs.Answers.{reading, refusal, rules, writing}
 use Rattle.rules.specs.Claims.{Bytes}
 use Rattle.runs.specs.State.{State}
 use Rattle.runs.specs.Step.{Carried}
@@ -25,7 +25,8 @@ use Rattle.starting.specs.Claims.{StartIsExact}
 use Rattle.replay.specs.Asked.{Asked}
 use Rattle.replay.specs.Replay.{replayed}
 use Rattle.replay.specs.Claims.{Enough}
-use Rattle.analyser.specs.Answer.{noVerdict, safeVerdict, leakVerdict, Told, told}
+use Rattle.analyser.specs.Told.{noVerdict, safeVerdict, leakVerdict, Told}
+use Rattle.analyser.specs.Answer.{told}
 use Rattle.analyser.specs.Never.{Never, StartCould, StartCouldNot, AsksSomething, RowsEnough, RowsTooFew}
 use Rattle.analyser.specs.Means.{Means}
 
@@ -53,6 +54,18 @@ Demand3 = (file question before after : List ℕ) (t : Told) (n : ℕ) → Means
 abbrev pub SafeIsNever : Type 0
 SafeIsNever = (file question : List ℕ) (room : ℕ) (p : Policy) → reading file ≡ rules p → told (reading file) question room .verdict ≡ safeVerdict
     → (who : Who) (which : Which) (permission : ℕ) → Asked p question who which permission → Never p who which permission
+
+-- [01:When a number is given instead, "The counts and rows are then 0 and no slice changes"; table, 1 to 8]: a number or a verdict
+pub record NumberOrVerdict (file question before after : List ℕ) (t : Told) (n : ℕ) : Type 0 where
+  -- 1 to 8 exactly where reading gives that number
+  pub file-number : (k : ℕ) → 1 ≤ k → k ≤ 8 → (t .number ≡ k) ↔ (reading file ≡ refusal k)
+  -- no number exactly where there is a verdict
+  pub either : (t .number ≡ 0) ↔ (t .verdict ≡ noVerdict → ⊥)
+  -- where there is none, counts and rows are 0 and the lent rows are as they were
+  pub empty : t .verdict ≡ noVerdict → (t .pairs ≡ 0) × (t .values ≡ 0) × (n ≡ 0) × (after ≡ before)
+
+abbrev pub FileNumbersComeFirst : Type 0
+FileNumbersComeFirst = (file question before after : List ℕ) (t : Told) (n : ℕ) → Means file question before after t n → NumberOrVerdict file question before after t n
 
 -- [01:When a number is given instead, 9]: exactly when the file is read and some starting session its user could not have brought about
 abbrev pub NineIsExact : Type 0

@@ -1,4 +1,5 @@
 -- in reading order
+pub mod Told  -- an answer without its rows
 pub mod Answer  -- refusal, verdict and counts of a file and a question
 pub mod Decide  -- what deciding comes to, private
 pub mod Never  -- what demand 3 speaks of, said of runs

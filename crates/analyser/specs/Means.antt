@@ -16,7 +16,8 @@ use Rattle.starting.specs.Start.{beginning}
 use Rattle.replay.specs.Asked.{Asked}
 use Rattle.replay.specs.Replay.{replayed}
 use Rattle.replay.specs.Claims.{Enough, AskedLeak}
-use Rattle.analyser.specs.Answer.{rowsNeeded, noVerdict, safeVerdict, leakVerdict, Told, told}
+use Rattle.analyser.specs.Told.{noVerdict, safeVerdict, leakVerdict, Told}
+use Rattle.analyser.specs.Answer.{rowsNeeded, told}
 use Rattle.analyser.specs.Never.{Never}
 
 -- the answer t and the first n of the rows `after`, where `before` were lent

@@ -4,7 +4,7 @@ ghost use Prim.Native.Nat.{ℕ, _^_, _≤_, _<_};
 ghost use Rattle.policy.specs.Policy.{width};
 ghost use Rattle.policy.specs.Rules.{attrsOf};
 ghost use Rattle.allowed.specs.Basis.{BasisOf};
-ghost use Rattle.analyser.specs.Answer.{toldOf};
+ghost use Rattle.analyser.specs.Told.{toldOf};
 ghost use Rattle.user_searches.specs.Found.{userFound};
 ghost use Rattle.analyser.specs.Decide.{rowsFor, startsFound, DecidedBy};
 ghost use Rattle.analyser.specs.Means.{Means};

@@ -2,7 +2,7 @@
 use mathlib.Core.Path.{_≡_, ap, subst}
 use mathlib.Core.List.{List}
 use Prim.Native.Nat.{ℕ}
-use Rattle.analyser.specs.Answer.{Told, toldOf}
+use Rattle.analyser.specs.Told.{Told, toldOf}
 use Rattle.analyser.specs.Means.{Means}
 use Rattle.analyser.specs.declared.Answer.{Answer as Analysis}
 use Rattle.analyser.specs.declared.Verdict.{Verdict}

@@ -30,7 +30,8 @@ use Rattle.replay.specs.Asked.{Asked, one-user, any-item}
 use Rattle.replay.specs.Question.{partsOf as questionOf, whoOf, whichOf, whoAmong, whichAmong, partsAsk, asks}
 use Rattle.replay.specs.Rows.{ranAll, further, rowsIn}
 use Rattle.replay.specs.Replay.{isOf, whoFits, whichFits, stepFits, lastFits, judged, played, replayed}
-use Rattle.analyser.specs.Answer.{sessionValues, itemValues, rowsNeeded, safeVerdict, refused as refusedAnswer, startsBrought, decided, told}
+use Rattle.analyser.specs.Told.{safeVerdict, refused as refusedAnswer}
+use Rattle.analyser.specs.Answer.{sessionValues, itemValues, rowsNeeded, startsBrought, decided, told}
 use Rattle.analyser.proofs.Theorems.{safe-is-never}
 use Rattle.p_cases.specs.Cases.{counterFile, firstStep, row, shownRows, shorterRows, ofUser0, ofUser1, isTold, replayNumber, widest, table, allHold, CounterNever, PaperCases}
 

@@ -18,7 +18,8 @@ use Rattle.live.specs.Lent.{hostNumber}
 use Rattle.steps.specs.Step.{stepIn}
 use Rattle.starting.specs.Start.{started}
 use Rattle.replay.specs.Replay.{replayed}
-use Rattle.analyser.specs.Answer.{rowsNeeded, noVerdict, safeVerdict, leakVerdict, Told, told}
+use Rattle.analyser.specs.Told.{noVerdict, safeVerdict, leakVerdict, Told}
+use Rattle.analyser.specs.Answer.{rowsNeeded, told}
 use Rattle.analyser.specs.Never.{Never}
 
 -- the counter file

@@ -30,7 +30,7 @@ def printed(program, pieces):
         return run.communicate()[0].decode()
 
 
-runs = wrong = 0
+inputs = runs = wrong = 0
 with open("tests/vectors/runs.txt", encoding="utf-8") as table:
     for number, line in enumerate(table, 1):
         if line.startswith("#") or not line.strip():
@@ -41,6 +41,7 @@ with open("tests/vectors/runs.txt", encoding="utf-8") as table:
         wide, text, expected = case.groups()
         program = "target/bin/rights_wide" if wide else "target/bin/rights"
         data = input_of(text)
+        inputs += 1
         ways = [[data]]
         if len(data) < 100:
             ways.append([data[k:k + 7] for k in range(0, len(data), 7)])
@@ -50,5 +51,5 @@ with open("tests/vectors/runs.txt", encoding="utf-8") as table:
             if found != expected + "\n":
                 wrong += 1
                 print(f"tests/vectors/runs.txt:{number}: expected {expected!r}, printed {found!r}")
-print(f"{runs} runs, {wrong} wrong")
+print(f"{inputs} inputs, {runs} runs, {wrong} wrong")
 sys.exit(1 if wrong or not runs else 0)

@@ -17,7 +17,8 @@ use Rattle.allowed.specs.Allowed.{modelOf}
 use Rattle.steps.proofs.Files.{file-sound}
 use Rattle.starting.specs.Start.{beginning}
 use Rattle.replay.specs.Question.{partsOf, whichOf}
-use Rattle.analyser.specs.Answer.{sessionValues, itemValues, Told, refused, decided}
+use Rattle.analyser.specs.Told.{Told, refused}
+use Rattle.analyser.specs.Answer.{sessionValues, itemValues, decided}
 use Rattle.analyser.specs.Means.{Means}
 use Rattle.analyser.proofs.Widths.{users-are, sessions-few, items-few, rows-bounded}
 use Rattle.analyser.proofs.Numbers.{Came, unread, nine, ten, eleven, judged, came}

@@ -11,7 +11,7 @@ use lib.ListN.{length, getD, take, drop, length-append, length-take, length-drop
 use lib.Seq.{length-take-le, paste, paste-zero, take-all, take-length, take-append-le, take-append-add, drop-append-add, take-append-seam, drop-drop}
 use borrow.Author.Tests.{lt-ltb, le-ltb}
 use Rattle.lanes.proofs.Laws.{lt-or-ge}
-use Rattle.analyser.specs.Answer.{Told}
+use Rattle.analyser.specs.Told.{Told}
 use Rattle.io.specs.Digits.{glyph, digits, Fewest}
 use Rattle.output.specs.Lines.{numeralIn, numeral, rowLine, lineAt}
 use Rattle.output.specs.Put.{over, fitting, putAt}

@@ -10,7 +10,7 @@ use native.Mathlib.Omega.{arith}
 use lib.Dec.{ltb, eqb}
 use lib.ListN.{length, length-append}
 use Rattle.cells.specs.Row.{partsOf}
-use Rattle.analyser.specs.Answer.{Told, noVerdict, safeVerdict}
+use Rattle.analyser.specs.Told.{Told, noVerdict, safeVerdict}
 use Rattle.output.specs.Lines.{numeralIn, numeral, safeWord, leakWord, refusedWord, line, verdictLine, rowLine}
 use Rattle.output.proofs.Laws.{numeral-fewest}
 

@@ -5,7 +5,7 @@ use mathlib.Core.List.{[], _∷_}
 use lib.ListN.{length}
 use Prim.Native.Nat.{_+_, _*_, _^_}
 use Rattle.cells.specs.Row.{partsOf}
-use Rattle.analyser.specs.Answer.{Told, refused, safeVerdict, leakVerdict}
+use Rattle.analyser.specs.Told.{Told, refused, safeVerdict, leakVerdict}
 use Rattle.output.specs.Lines.{numeralIn, numeral, safeWord, leakWord, refusedWord, line, verdictLine, rowLine, lineAt}
 use Rattle.output.specs.Claims.{NumeralsAreDecimal}
 use Rattle.output.proofs.Laws.{numeral-digits, numeral-fewest}

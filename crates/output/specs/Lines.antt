@@ -7,7 +7,7 @@ use Prim.Native.Nat.{ℕ, zero, suc, _+_, _/_, _%_}
 use lib.Dec.{ltb, eqb}
 use lib.ListN.{getD}
 use Rattle.cells.specs.Row.{partsOf}
-use Rattle.analyser.specs.Answer.{Told, noVerdict, safeVerdict}
+use Rattle.analyser.specs.Told.{Told, noVerdict, safeVerdict}
 
 -- the decimal digits of n, no more than the first argument says, the first of them not 0 unless n is 0
 unfoldable pub numeralIn : ℕ → ℕ → List ℕ

@@ -3,7 +3,7 @@ ghost use mathlib.Core.Path.{_≡_};
 ghost use mathlib.Core.List.{[], _∷_, _++_};
 ghost use Prim.Native.Nat.{_+_, _≤_, min};
 ghost use lib.ListN.{length, getD};
-ghost use Rattle.analyser.specs.Answer.{toldOf};
+ghost use Rattle.analyser.specs.Told.{toldOf};
 ghost use Rattle.output.specs.Lines.{numeral, safeWord, leakWord, refusedWord, line, verdictLine, rowLine, lineAt};
 ghost use Rattle.output.specs.Put.{over, fitting, putAt};
 use analyser::Answer;

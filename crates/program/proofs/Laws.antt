@@ -9,7 +9,8 @@ use native.Mathlib.Omega.{arith}
 use lib.ListN.{length, take, drop}
 use Rattle.rules.specs.Answers.{Answer, reading}
 use Rattle.replay.specs.Replay.{replayed}
-use Rattle.analyser.specs.Answer.{Told, told, refused}
+use Rattle.analyser.specs.Told.{Told, refused}
+use Rattle.analyser.specs.Answer.{told}
 use Rattle.analyser.specs.Means.{Means}
 use Rattle.analyser.proofs.Few.{Few, means-few}
 use Rattle.program.specs.Program.{TooShort, ProgramMeans}

@@ -1,11 +1,11 @@
 -- The claims of specs/Claims.antt.
 -- Assumes nothing.
-use mathlib.Core.Path.{_≡_}
 use mathlib.Core.List.{List}
 use Prim.Native.Nat.{ℕ, zero, suc, _^_, _<_, _≤_}
-use lib.ListN.{length, take, getD}
-use Rattle.rules.specs.Answers.{reading}
-use Rattle.analyser.specs.Answer.{Told}
+use lib.ListN.{length, getD}
+use Rattle.rules.specs.Claims.{largestFile}
+use Rattle.rules.proofs.Theorems.{front-decides}
+use Rattle.analyser.specs.Told.{Told}
 use Rattle.analyser.proofs.Few.{Few}
 use Rattle.output.specs.Lines.{lineAt}
 use Rattle.output.proofs.Lengths.{verdictLine-short, rowLine-short}
@@ -20,7 +20,5 @@ line-fits t n after few rows (suc i) = rowLine-short (getD after i 0) (rows i)
 pub lines-fit : LinesFit
 lines-fit input before after t n means rows i = line-fits t n after (program-few input before after t n means) rows i
 
--- where bytes beyond the largest file change nothing of what is read
-module _ (same : (s : List ℕ) (k : ℕ) → 2069 < k → reading (take k s) ≡ reading s) where
-  pub front-is-enough : FrontIsEnough
-  front-is-enough = input-front 2069 same
+pub front-is-enough : FrontIsEnough
+front-is-enough = input-front largestFile (front-decides .same)

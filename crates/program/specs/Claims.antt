@@ -4,7 +4,7 @@ use mathlib.Core.Logic.{_↔_}
 use mathlib.Core.List.{List}
 use Prim.Native.Nat.{ℕ, _^_, _≤_, _<_}
 use lib.ListN.{length, take, getD}
-use Rattle.analyser.specs.Answer.{Told}
+use Rattle.analyser.specs.Told.{Told}
 use Rattle.output.specs.Lines.{lineAt}
 use Rattle.program.specs.Program.{ProgramMeans, largestInput}
 

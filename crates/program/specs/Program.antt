@@ -3,7 +3,8 @@
 use mathlib.Core.Path.{_≡_}
 use mathlib.Core.List.{List, [], _∷_}
 use Prim.Native.Nat.{ℕ, _+_}
-use Rattle.analyser.specs.Answer.{Told, refused}
+use Rattle.rules.specs.Claims.{largestFile}
+use Rattle.analyser.specs.Told.{Told, refused}
 use Rattle.analyser.specs.Means.{Means}
 
 -- an input that is too short for a question gets 1 and no rows, and those that were lent are as they were
@@ -19,4 +20,4 @@ ProgramMeans (a ∷ b ∷ c ∷ file) before after t n = Means file (a ∷ b ∷
 
 -- the bytes of a question and of the largest file
 abbrev pub largestInput : ℕ
-largestInput = 3 + 2069
+largestInput = 3 + largestFile

@@ -2,7 +2,7 @@
 ghost use mathlib.Core.Path.{_≡_};
 ghost use Prim.Native.Nat.{_<_};
 ghost use lib.ListN.{length};
-ghost use Rattle.analyser.specs.Answer.{toldOf};
+ghost use Rattle.analyser.specs.Told.{toldOf};
 ghost use Rattle.program.specs.Program.{ProgramMeans, largestInput};
 use analyser::Answer;
 use analyser::Verdict;

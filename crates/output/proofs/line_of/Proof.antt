@@ -3,7 +3,7 @@ use mathlib.Core.Path.{_≡_, sym, ap, _∙_}
 use mathlib.Core.List.{List}
 use Prim.Native.Nat.{ℕ, min}
 use lib.ListN.{length}
-use Rattle.analyser.specs.Answer.{toldOf}
+use Rattle.analyser.specs.Told.{toldOf}
 use Rattle.output.specs.Lines.{rowLine, lineAt}
 use Rattle.output.specs.Put.{over}
 use Rattle.output.proofs.Laws.{lineAt-row}

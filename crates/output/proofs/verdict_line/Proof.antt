@@ -1,5 +1,5 @@
 -- `output::verdict_line` meets its contract: a line for each case of the verdict.
-use Rattle.analyser.specs.Answer.{toldOf}
+use Rattle.analyser.specs.Told.{toldOf}
 use Rattle.output.specs.Lines.{verdictLine}
 use borrow.Author.Needs.{needs}
 use Rattle.output.proofs.verdict_line.Statement.{statement}

@@ -5,7 +5,7 @@ use Prim.Native.Nat.{ℕ, _-_, _≤_}
 use native.Mathlib.Omega.{arith}
 use lib.ListN.{length, take, drop, length-drop}
 use lib.Seq.{take-all}
-use Rattle.analyser.specs.Answer.{refused, toldOf}
+use Rattle.analyser.specs.Told.{refused, toldOf}
 use Rattle.analyser.specs.Means.{Means}
 use Rattle.analyser.specs.declared.Verdict.the-variants as Verdict
 use Rattle.program.specs.Program.{TooShort}

@@ -63,10 +63,10 @@ fn rows_needed(rules: Rules) -> usize
 {
     let s = class_width(rules.classes.session);
     let o = class_width(rules.classes.item);
-    if 8 < s {
+    if Question::WIDTH < s {
         return 0;
     }
-    if 8 < o {
+    if Question::WIDTH < o {
         return 0;
     }
     let n = room(s);

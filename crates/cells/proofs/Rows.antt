@@ -1,7 +1,7 @@
 -- Laws of rows. In order: rows with equal parts; the parts as shifts and masks give them; from parts to a row and back; the row as a sum; a row's
 -- step.
-use mathlib.Core.Path.{_≡_, refl}
-use Prim.Native.Nat.{ℕ, _+_, _*_, _/_, _%_, _^_, _<_}
+use mathlib.Core.Path.{_≡_, refl, ap, _∙_}
+use Prim.Native.Nat.{ℕ, _+_, _-_, _*_, _/_, _%_, _^_, _<_}
 use native.Mathlib.Nat.{mod-lt, mod-eq-of-lt}
 use native.Mathlib.Omega.{arith}
 use lib.Bits.{bitAnd, and-mask}
@@ -52,11 +52,31 @@ pub parts-fit : (x : ℕ) → x < 2 ^ 64 → FitsRow (partsOf x)
 unfolding partsOf
 parts-fit x h = record { kind = omega arith; actor = omega arith; target = omega arith; value = omega arith; spare = omega arith }
 
-pub bits-are : (r : Row) →
-    r .kind % 16 * 1152921504606846976 + r .actor % 1048576 * 1099511627776 + r .target % 1048576 * 1048576 + r .value % 4096 * 256 + r .spare % 256
-    ≡ bitsOf r
-unfolding bitsOf
-bits-are r = refl
+-- a field of w bits with k bits after it, as a mask and a shift give it
+field-placed : (n w k : ℕ) → n % 2 ^ w * 2 ^ k < 2 ^ 64 → bitAnd n (2 ^ w - 1) * 2 ^ k % 2 ^ 64 ≡ n % 2 ^ w * 2 ^ k
+field-placed n w k h = ap (λ (m : ℕ). m * 2 ^ k % 2 ^ 64) (and-mask n w) ∙ mod-eq-of-lt h
+
+module _ (r : Row) where
+  pub kind-placed : bitAnd (r .kind) 15 * 2 ^ 60 % 2 ^ 64 ≡ r .kind % 2 ^ 4 * 2 ^ 60
+  kind-placed = field-placed (r .kind) 4 60 (omega arith)
+
+  pub actor-placed : bitAnd (r .actor) 1048575 * 2 ^ 40 % 2 ^ 64 ≡ r .actor % 2 ^ 20 * 2 ^ 40
+  actor-placed = field-placed (r .actor) 20 40 (omega arith)
+
+  pub target-placed : bitAnd (r .target) 1048575 * 2 ^ 20 % 2 ^ 64 ≡ r .target % 2 ^ 20 * 2 ^ 20
+  target-placed = field-placed (r .target) 20 20 (omega arith)
+
+  pub value-placed : bitAnd (r .value) 4095 * 2 ^ 8 % 2 ^ 64 ≡ r .value % 2 ^ 12 * 2 ^ 8
+  value-placed = field-placed (r .value) 12 8 (omega arith)
+
+  pub spare-placed : bitAnd (r .spare) 255 ≡ r .spare % 2 ^ 8
+  spare-placed = and-mask (r .spare) 8
+
+  pub bits-are : bitAnd (r .kind) 15 * 2 ^ 60 % 2 ^ 64 + bitAnd (r .actor) 1048575 * 2 ^ 40 % 2 ^ 64 + bitAnd (r .target) 1048575 * 2 ^ 20 % 2 ^ 64
+      + bitAnd (r .value) 4095 * 2 ^ 8 % 2 ^ 64 + bitAnd (r .spare) 255
+      ≡ bitsOf r
+  unfolding bitsOf
+  bits-are = rw (kind-placed, actor-placed, target-placed, value-placed, spare-placed) refl
 
 pub step-is : (r : Row) → stepOf r ≡ record { kind = r .kind; actor = r .actor; target = r .target; value = r .value }
 unfolding stepOf

@@ -25,17 +25,35 @@ impl Row {
 
     pub const ACCESS: u64 = 6;
     // The fields' widths, most significant first.
-    pub const KIND_BITS: u32 = 4;
+    pub const KIND_BITS: u64 = 4;
 
-    pub const ACTOR_BITS: u32 = 20;
+    pub const ACTOR_BITS: u64 = 20;
 
-    pub const TARGET_BITS: u32 = 20;
+    pub const TARGET_BITS: u64 = 20;
 
-    pub const VALUE_BITS: u32 = 12;
+    pub const VALUE_BITS: u64 = 12;
 
-    pub const SPARE_BITS: u32 = 8;
+    pub const SPARE_BITS: u64 = 8;
+    // So many bits follow each field.
+    pub const VALUE_AT: u64 = Self::SPARE_BITS;
+
+    pub const TARGET_AT: u64 = Self::VALUE_AT + Self::VALUE_BITS;
+
+    pub const ACTOR_AT: u64 = Self::TARGET_AT + Self::TARGET_BITS;
+
+    pub const KIND_AT: u64 = Self::ACTOR_AT + Self::ACTOR_BITS;
+    // The bits of each field, where it is the last.
+    pub const KIND_MASK: u64 = (1 << Self::KIND_BITS) - 1;
+
+    pub const ACTOR_MASK: u64 = (1 << Self::ACTOR_BITS) - 1;
+
+    pub const TARGET_MASK: u64 = (1 << Self::TARGET_BITS) - 1;
+
+    pub const VALUE_MASK: u64 = (1 << Self::VALUE_BITS) - 1;
+
+    pub const SPARE_MASK: u64 = (1 << Self::SPARE_BITS) - 1;
     // So many numbers of sessions, and of items, can be given.
-    pub const NUMBERS: u64 = 1_048_576;
+    pub const NUMBERS: u64 = 1 << Self::TARGET_BITS;
 
     // The row of a step.
     pub fn new(kind: u64, actor: u64, target: u64, value: u64) -> Self
@@ -55,11 +73,11 @@ impl Row {
         ensures { λ r. ⌜ r ≡ partsOf x ⌝ }
     {
         Self {
-            kind: x >> 60,
-            actor: (x >> 40) & 0xF_FFFF,
-            target: (x >> 20) & 0xF_FFFF,
-            value: (x >> 8) & 0xFFF,
-            spare: x & 0xFF,
+            kind: x >> Self::KIND_AT,
+            actor: (x >> Self::ACTOR_AT) & Self::ACTOR_MASK,
+            target: (x >> Self::TARGET_AT) & Self::TARGET_MASK,
+            value: (x >> Self::VALUE_AT) & Self::VALUE_MASK,
+            spare: x & Self::SPARE_MASK,
         }
     }
 
@@ -67,10 +85,10 @@ impl Row {
     pub fn bits(row: Row) -> u64
         ensures { λ r. ⌜ r ≡ bitsOf row ⌝ }
     {
-        (row.kind % 16) * 0x1000_0000_0000_0000
-            + (row.actor % 0x10_0000) * 0x100_0000_0000
-            + (row.target % 0x10_0000) * 0x10_0000
-            + (row.value % 0x1000) * 256
-            + row.spare % 256
+        ((row.kind & Self::KIND_MASK) << Self::KIND_AT)
+            + ((row.actor & Self::ACTOR_MASK) << Self::ACTOR_AT)
+            + ((row.target & Self::TARGET_MASK) << Self::TARGET_AT)
+            + ((row.value & Self::VALUE_MASK) << Self::VALUE_AT)
+            + (row.spare & Self::SPARE_MASK)
     }
 }

@@ -42,12 +42,12 @@ pub fn judge(rules: Rules, sessions: &[u64], items: &[u64], next: Next, row: u64
     }
     let kind = r.kind;
     match kind {
-        1 => sessions::open_session(rules, sessions, next, r),
-        2 => sessions::close_session(rules, sessions, next, r),
-        3 => sessions::change_session(rules, sessions, next, r),
-        4 => items::make_item(rules, sessions, items, next, r),
-        5 => items::change_item(rules, sessions, items, next, r),
-        6 => items::access_item(rules, sessions, items, next, r),
+        Row::OPEN => sessions::open_session(rules, sessions, next, r),
+        Row::CLOSE => sessions::close_session(rules, sessions, next, r),
+        Row::CHANGE_SESSION => sessions::change_session(rules, sessions, next, r),
+        Row::MAKE => items::make_item(rules, sessions, items, next, r),
+        Row::CHANGE_ITEM => items::change_item(rules, sessions, items, next, r),
+        Row::ACCESS => items::access_item(rules, sessions, items, next, r),
         _ => refused(next, 12),
     }
 }

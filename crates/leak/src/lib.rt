@@ -8,6 +8,7 @@ ghost use Rattle.search.specs.Searched.{depthAt};
 ghost use Rattle.search.specs.declared.queue.Found.{Found};
 ghost use Rattle.leak.specs.Turn.{itemTurn};
 ghost use Rattle.leak.specs.Leak.{linked, itemTo, itemOf, actorReady, actorOf, leakWritten};
+use cells::Row;
 use search::queue::Found;
 use session_rows::Pen;
 use session_rows::end;
@@ -61,12 +62,12 @@ fn item_step(
     let via = session_rows::via_at(q, session_rows::way_at(q, pos, j)) as usize;
     let o = session_rows::way_value(q, pos, j);
     if j != 0 {
-        return link(rows, pen, users, by, 5, via, t, o);
+        return link(rows, pen, users, by, Row::CHANGE_ITEM, via, t, o);
     }
     if 256 <= via {
         return pen;
     }
-    link(rows, pen, users, by, 4, via, t, o)
+    link(rows, pen, users, by, Row::MAKE, via, t, o)
 }
 
 // The item is brought to the value at place pos of the search q.
@@ -160,5 +161,9 @@ pub fn write_leak(
     let i = bring_item(rows, pen, users, by, q, pos, t);
     let s = ready_actor(rows, i, users, by, own, aim);
     let actor = actor_of(s, aim);
-    end::put(rows, s, end::row_of(6, actor, t, aim.permission as u64))
+    end::put(
+        rows,
+        s,
+        end::row_of(Row::ACCESS, actor, t, aim.permission as u64),
+    )
 }

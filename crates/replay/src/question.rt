@@ -16,22 +16,28 @@ pub struct Question {
 }
 
 impl Question {
-    // The fields' widths, most significant first.
-    pub const WHO_KIND_BITS: u32 = 2;
-
-    pub const WHO_BITS: u32 = 6;
-
-    pub const ITEM_KIND_BITS: u32 = 1;
-
-    pub const ITEM_BITS: u32 = 6;
-
-    pub const PERMISSION_BITS: u32 = 4;
     // A question takes so many bytes.
     pub const BYTES: usize = 3;
-    // A class of holders is at most so many bits wide.
+    // The widths of the fields that end a byte: who, the item, the spare bits after the permission.
+    pub const WHO_BITS: u8 = 6;
+
+    pub const ITEM_BITS: u8 = 6;
+
+    pub const SPARE_BITS: u8 = 4;
+    // A spare bit stands between the item and its kind.
+    pub const ITEM_KIND_AT: u8 = Self::ITEM_BITS + 1;
+    // So many numbers fit each field that ends a byte.
+    pub const WHOS: u8 = 1 << Self::WHO_BITS;
+
+    pub const ITEMS: u8 = 1 << Self::ITEM_BITS;
+
+    pub const SPARES: u8 = 1 << Self::SPARE_BITS;
+    // A class of holders is at most so many bits wide, and has at most so many values.
     pub const WIDTH: usize = 8;
+
+    pub const VALUES: usize = 1 << Self::WIDTH;
     // At that width a leak takes at most so many rows.
-    pub const ROWS: usize = 66_049;
+    pub const ROWS: usize = Self::VALUES + Self::VALUES * (Self::VALUES + 1) + 1;
     // The kinds of who and of items.
     pub const SESSION: u8 = 0;
 
@@ -51,12 +57,12 @@ impl Question {
         let b = byte_at(bytes, 1);
         let c = byte_at(bytes, 2);
         Self {
-            whokind: a / 64,
-            who: a % 64,
-            itemkind: b / 128,
-            item: b % 64,
-            permission: c / 16,
-            spares: b / 64 % 2 + c % 16,
+            whokind: a >> Self::WHO_BITS,
+            who: a % Self::WHOS,
+            itemkind: b >> Self::ITEM_KIND_AT,
+            item: b % Self::ITEMS,
+            permission: c >> Self::SPARE_BITS,
+            spares: (b >> Self::ITEM_BITS) % 2 + c % Self::SPARES,
         }
     }
 }

@@ -12,6 +12,7 @@ ghost use Rattle.session_rows.specs.Way.{wayRows, brought, helped, helpe
 
 pub mod end;
 
+use cells::Row;
 use end::before;
 use end::number_at;
 use end::owner_at;
@@ -97,9 +98,9 @@ fn way_row(q: Found, pos: usize, i: usize, u: u8, n: u64) -> u64
 {
     let v = way_value(q, pos, i) as u64;
     if i == 0 {
-        return row_of(1, u as u64, n, v);
+        return row_of(Row::OPEN, u as u64, n, v);
     }
-    row_of(3, u as u64, n, v)
+    row_of(Row::CHANGE_SESSION, u as u64, n, v)
 }
 
 // Session n of user u is opened with the start's value and changed along the way to pos, from the step `first` on: all rows, or none where they

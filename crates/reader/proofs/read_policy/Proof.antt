@@ -4,7 +4,6 @@ use mathlib.Core.Path.{_≡_, refl, _∙_}
 use Prim.Native.Nat.{_≤_}
 use native.Mathlib.Omega.{arith}
 use borrow.Author.Needs.{needs}
-use Rattle.format.specs.Format.{Format}
 use Rattle.format.specs.Steps.{resOf}
 use Rattle.format.proofs.Chain.{from-good, res-any, chain-pair, chain-via}
 use Rattle.policy.specs.File.{policyFormat}

@@ -14,13 +14,14 @@ use Rattle.runs.specs.State.{State}
 use Rattle.verdict.specs.Closure.{inTable}
 use Rattle.verdict.specs.Verdict.{reached, pairs, values, whichCan}
 use Rattle.allowed.specs.Allowed.{modelOf}
+use Rattle.allowed.proofs.ModelLaws.{model-user-count}
 use Rattle.steps.proofs.Files.{file-sound}
 use Rattle.starting.specs.Start.{beginning}
 use Rattle.replay.specs.Question.{partsOf, whichOf}
 use Rattle.analyser.specs.Told.{Told, refused}
 use Rattle.analyser.specs.Answer.{sessionValues, itemValues, decided}
 use Rattle.analyser.specs.Means.{Means}
-use Rattle.analyser.proofs.Widths.{users-are, sessions-few, items-few, rows-bounded}
+use Rattle.analyser.proofs.Widths.{sessions-few, items-few, rows-bounded}
 use Rattle.analyser.proofs.Numbers.{Came, unread, nine, ten, eleven, judged, came}
 
 pairs-few : (m : Model) (n u : ℕ) → pairs m n u ≤ u * n
@@ -54,7 +55,7 @@ module _ (file question before after : List ℕ) (t : Told) (n : ℕ) (means : M
       let q = partsOf question in
       let v : t .values ≡ values m (beginning p) k (itemValues p) (whichOf q) = ap (λ (x : Told). x .values) e in
       let c : t .pairs ≡ pairs m k (m .users) = ap (λ (x : Told). x .pairs) e in
-      let u : m .users ≤ 16 = omega (arith, users-are p, sound .users) in
+      let u : m .users ≤ 16 = omega (arith, model-user-count p, sound .users) in
       let most : m .users * k ≤ 16 * 256 = mul-le-mul u (sessions-few p sound) in
       (omega (arith, pairs-few m k (m .users)), omega (arith, values-few m (beginning p) k (itemValues p) (whichOf q), items-few p sound), rows)
 

@@ -125,11 +125,11 @@ module _ (file question : List ℕ) (room : ℕ) (t : Told) (e : t ≡ told (rea
         go false x = x
         go true x = absurd (not-all p (file-sound file p r) n x)
 
-  counts-are : {n : ℕ} → t ≡ refused n → (t .pairs ≡ 0) × (t .values ≡ 0)
-  counts-are {n} x = (ap (λ (y : Told). y .pairs) x ∙ refused-counts n .0, ap (λ (y : Told). y .values) x ∙ refused-counts n .1)
+  counts-are : (n : ℕ) → t ≡ refused n → (t .pairs ≡ 0) × (t .values ≡ 0)
+  counts-are n x = (ap (λ (y : Told). y .pairs) x ∙ refused-counts n .0, ap (λ (y : Told). y .values) x ∙ refused-counts n .1)
 
-  verdict-is : {n : ℕ} → t ≡ refused n → t .verdict ≡ noVerdict
-  verdict-is {n} x = ap (λ (y : Told). y .verdict) x ∙ refused-none n
+  verdict-is : (n : ℕ) → t ≡ refused n → t .verdict ≡ noVerdict
+  verdict-is n x = ap (λ (y : Told). y .verdict) x ∙ refused-none n
 
   judged-verdict : (p : Policy) → t ≡ decided p question → t .verdict ≡ noVerdict → ⊥
   judged-verdict p x z = neither (decided p question .verdict) (decided-two p question) (sym (ap (λ (y : Told). y .verdict) x) ∙ z)
@@ -159,20 +159,20 @@ module _ (file question : List ℕ) (room : ℕ) (t : Told) (e : t ≡ told (rea
       forth (judged p r b a l x) y = judged-verdict p x
 
       back : Came file question room t → (t .verdict ≡ noVerdict → ⊥) → t .number ≡ 0
-      back (unread n r x) y = absurd (y (verdict-is x))
-      back (nine p r b x) y = absurd (y (verdict-is x))
-      back (ten p r b a x) y = absurd (y (verdict-is x))
-      back (eleven p r b a l x) y = absurd (y (verdict-is x))
+      back (unread n r x) y = absurd (y (verdict-is n x))
+      back (nine p r b x) y = absurd (y (verdict-is 9 x))
+      back (ten p r b a x) y = absurd (y (verdict-is 10 x))
+      back (eleven p r b a l x) y = absurd (y (verdict-is 11 x))
       back (judged p r b a l x) y = judged-number p x
 
   pub is-empty : t .verdict ≡ noVerdict → (t .pairs ≡ 0) × (t .values ≡ 0)
   is-empty = go (came file question room t e)
     where
       go : Came file question room t → t .verdict ≡ noVerdict → (t .pairs ≡ 0) × (t .values ≡ 0)
-      go (unread n r x) z = counts-are x
-      go (nine p r b x) z = counts-are x
-      go (ten p r b a x) z = counts-are x
-      go (eleven p r b a l x) z = counts-are x
+      go (unread n r x) z = counts-are n x
+      go (nine p r b x) z = counts-are 9 x
+      go (ten p r b a x) z = counts-are 10 x
+      go (eleven p r b a l x) z = counts-are 11 x
       go (judged p r b a l x) z = absurd (judged-verdict p x z)
 
   pub is-nine : (t .number ≡ 9) ↔ ((p : Policy) × (reading file ≡ rules p) × StartCouldNot p)
@@ -220,8 +220,8 @@ module _ (file question : List ℕ) (room : ℕ) (t : Told) (e : t ≡ told (rea
   is-judged = (forth (came file question room t e), λ (p, r, c, s, l). judged-verdict p (is-decided p r c s l))
     where
       forth : Came file question room t → (t .verdict ≡ noVerdict → ⊥) → (p : Policy) × (reading file ≡ rules p) × StartCould p × AsksSomething p question × RowsEnough p room
-      forth (unread n r x) y = absurd (y (verdict-is x))
-      forth (nine p r b x) y = absurd (y (verdict-is x))
-      forth (ten p r b a x) y = absurd (y (verdict-is x))
-      forth (eleven p r b a l x) y = absurd (y (verdict-is x))
+      forth (unread n r x) y = absurd (y (verdict-is n x))
+      forth (nine p r b x) y = absurd (y (verdict-is 9 x))
+      forth (ten p r b a x) y = absurd (y (verdict-is 10 x))
+      forth (eleven p r b a l x) y = absurd (y (verdict-is 11 x))
       forth (judged p r b a l x) y = (p, r, true-could p r b, asks-is p question .0 a, enough-is p room .1 l)

@@ -7,6 +7,7 @@ ghost use Rattle.program.specs.Program.{ProgramMeans, largestInput};
 use analyser::Answer;
 use analyser::Verdict;
 use analyser::analyse;
+use replay::question::Question;
 
 // Room for an input: more bytes than a question and the largest rule file have.
 pub fn input_buffer() -> [u8; 4096]
@@ -20,7 +21,7 @@ pub fn input_buffer() -> [u8; 4096]
 pub fn answer_of(input: &[u8], rows: &mut [u64]) -> Answer
     ensures { λ r. ⌜ ProgramMeans (now (input .entry)) (now (rows .entry)) (now (rows .exit)) (toldOf (r .verdict) (r .pairs) (r .values)) (r .rows) ⌝ }
 {
-    if input.len() < 3 {
+    if input.len() < Question::BYTES {
         return Answer {
             verdict: Verdict::Refused(1),
             pairs: 0,
@@ -28,5 +29,5 @@ pub fn answer_of(input: &[u8], rows: &mut [u64]) -> Answer
             rows: 0,
         };
     }
-    analyse(&input[3..], &input[0..3], rows)
+    analyse(&input[Question::BYTES..], &input[0..Question::BYTES], rows)
 }

@@ -11,8 +11,6 @@ use borrow.Author.Needs.{needs}
 use Rattle.output.proofs.line_of.Statement.{statement}
 use Rattle.output.proofs.line_of.Tie as tie
 
--- `output::line_of` meets its contract: the verdict's line, or that of a row.
-
 verdict-line-requires : tie.Need-verdict-line-requires
 verdict-line-requires c κs = search needs
 

@@ -5,8 +5,6 @@ use borrow.Author.Needs.{needs}
 use Rattle.output.proofs.verdict_line.Statement.{statement}
 use Rattle.output.proofs.verdict_line.Tie as tie
 
--- `output::verdict_line` meets its contract: a line for each case of the verdict.
-
 enum-known-verdict : tie.Need-enum-known-verdict
 enum-known-verdict c = search needs
 

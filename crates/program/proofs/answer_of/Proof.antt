@@ -14,15 +14,11 @@ use borrow.Author.Needs.{needs}
 use Rattle.program.proofs.answer_of.Statement.{statement}
 use Rattle.program.proofs.answer_of.Tie as tie
 
--- `program::answer_of` meets its contract: an input that is too short, or a question and a file.
-
--- `program::answer_of` meets its contract: an input that is too short, or a question and a file.
-
 returns : tie.Need-returns
 unfolding toldOf refused TooShort
 returns c =
     let a = c .before .before .before .args in
-    short-means (a .rows .now) (a .rows .now) (toldOf (Verdict.Refused 1) 0 0) 0 (a .input .now) (c .if1 .taken) (refl, refl, refl)
+    short-means (a .rows .now) (a .rows .now) (toldOf (Verdict.Refused 1) 0 0) 0 (a .input .now) (omega arith) (refl, refl, refl)
 
 sub-analyse : tie.Need-sub-analyse
 sub-analyse c = search needs
@@ -55,7 +51,7 @@ returns-2 c =
     let x = y .result in
     let input = a .input .now in
     let t = toldOf (x .verdict) (x .pairs) (x .values) in
-    let h : 3 ≤ length input = c .before .before .before .before .before .before .if1 .left in
+    let h : 3 ≤ length input = omega arith in
     let all : take (length input - 3) (drop 3 input) ≡ drop 3 input = take-all (length input - 3) (drop 3 input) (omega (arith, length-drop 3 input)) in
     long-means (a .rows .now) (y .last .1 .1 .0) t (x .rows) input h
     (subst (λ (l : List ℕ). Means l (take 3 input) (a .rows .now) (y .last .1 .1 .0) t (x .rows)) all (y .ensures))

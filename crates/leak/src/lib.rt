@@ -9,6 +9,7 @@ ghost use Rattle.search.specs.declared.queue.Found.{Found};
 ghost use Rattle.leak.specs.Turn.{itemTurn};
 ghost use Rattle.leak.specs.Leak.{linked, itemTo, itemOf, actorReady, actorOf, leakWritten};
 use cells::Row;
+use replay::question::Question;
 use search::queue::Found;
 use session_rows::Pen;
 use session_rows::end;
@@ -115,7 +116,7 @@ fn ready_actor(
     ensures { λ r. ⌜ Wrote pen (now (rows .entry)) r (now (rows .exit)) ⌝ }
 {
     let v = aim.value as usize;
-    if aim.whokind == 0 {
+    if aim.whokind == Question::SESSION {
         return session_rows::write_way(
             rows,
             pen,
@@ -126,7 +127,7 @@ fn ready_actor(
             aim.session,
         );
     }
-    if aim.whokind == 1 {
+    if aim.whokind == Question::USER {
         return session_rows::help_by(rows, pen, users, by, aim.owner, v);
     }
     session_rows::help(rows, pen, users, by, v)
@@ -136,7 +137,7 @@ fn ready_actor(
 fn actor_of(pen: Pen, aim: Aim) -> u64
     ensures { λ r. ⌜ ((room : ℕ) (users : List Found) (by : List ℕ) (rows : List ℕ) → r ≡ actorOf room users by aim (writingOf pen rows)) ⌝ }
 {
-    if aim.whokind == 0 {
+    if aim.whokind == Question::SESSION {
         return aim.session;
     }
     end::before(end::number_at(pen, aim.value as usize) as u64)

@@ -1,5 +1,7 @@
 -- Every marked case holds: the table is computed, and P1's safe is never by the theorem.
 use mathlib.Core.Path.{_≡_, refl, sym, ap, _∙_}
+use mathlib.Core.List.{List, [], _∷_}
+use Prim.Native.Nat.{ℕ}
 use native.Mathlib.Omega.{arith}
 use lib.ListN.{length}
 use Rattle.bits.specs.Field.{bitAt, numberOf, numberAt, fieldAt}
@@ -30,16 +32,20 @@ use Rattle.replay.specs.Asked.{Asked, one-user, any-item}
 use Rattle.replay.specs.Question.{partsOf as questionOf, whoOf, whichOf, whoAmong, whichAmong, partsAsk, asks}
 use Rattle.replay.specs.Rows.{ranAll, further, rowsIn}
 use Rattle.replay.specs.Replay.{isOf, whoFits, whichFits, stepFits, lastFits, judged, played, replayed}
-use Rattle.analyser.specs.Told.{safeVerdict, refused as refusedAnswer}
+use Rattle.analyser.specs.Told.{safeVerdict, Told, refused as refusedAnswer}
 use Rattle.analyser.specs.Answer.{sessionValues, itemValues, rowsNeeded, startsBrought, decided, told}
+use Rattle.analyser.specs.Means.{Means}
 use Rattle.analyser.proofs.Theorems.{safe-is-never}
-use Rattle.p_cases.specs.Cases.{counterFile, firstStep, row, shownRows, shorterRows, ofUser0, ofUser1, isTold, replayNumber, widest, table, allHold, CounterNever, PaperCases}
+use Rattle.output.specs.Lines.{numeralIn, numeral, safeWord, line, verdictLine, lineAt}
+use Rattle.program.specs.Program.{ProgramMeans}
+use Rattle.p_cases.specs.Cases.{counterFile, firstStep, row, shownRows, shorterRows, ofUser0, ofUser1, isTold, replayNumber, widest, table, allHold, CounterNever, CounterPrints, PaperCases}
 
--- of the counter file, computed: P1's verdict, how many users and permissions it has
+-- of the counter file, computed: P1's verdict, how many users and permissions it has, and the answer where 8,192 rows are lent
 counter-computed : (told (reading counterFile) ofUser1 9 .verdict ≡ safeVerdict) × (length (startRules (reading counterFile) .users) ≡ 2)
     × (startRules (reading counterFile) .head .permissions ≡ 1)
+    × (told (reading counterFile) ofUser1 8192 ≡ record { number = 0; verdict = safeVerdict; pairs = 3; values = 2 })
 unfolding counterFile ofUser1 bitAt numberOf numberAt fieldAt tab sizeOf inSet allBelow subsetOf properOf unless first tested andThen taken within field check rowsRead rows pair via zeros ended readFile fewestFrom fewestBits bitsFor codes width opOf firstOf secondOf holderOf placeOf mayUse ofHolder names atomic nodeOk count headFormat largest attrFormat classFormat listsFormat valueFormat sessionFormat formulaFormat policyFormat answered reading attrOf partOf heldBy operand sizeOfOperand compared nodeSays said holds inLists listed someBelow countBelow opensWith changesTo makesWith modifiesTo accesses sessionOf itemOf begin tableFrom tableOf inTable round rounds closure reached reachedFrom helpers allBrought pairs canMake canModify made itemFrom ofOne whoCan whichCan leaks values says opening changing making modifying accessing userValue modelOf beginning questionOf whoOf whichOf whoAmong whichAmong partsAsk asks sessionValues itemValues rowsNeeded refusedAnswer startsBrought decided told startRules
-counter-computed = (refl, refl, refl)
+counter-computed = (refl, refl, refl, refl)
 
 counter-rules : (p : Policy) → reading counterFile ≡ rules p → startRules (reading counterFile) ≡ p
 unfolding startRules
@@ -67,6 +73,22 @@ counter-asked p e =
 
 pub counter-never : CounterNever
 counter-never p e = safe-is-never counterFile ofUser1 9 p e (counter-computed .0) (user 1) anything 0 (counter-asked p e)
+
+-- the line of a safe answer with the counts 3 and 2
+counter-line : (n : ℕ) (after : List ℕ) → lineAt record { number = 0; verdict = safeVerdict; pairs = 3; values = 2 } n after 0 ≡ 83 ∷ 65 ∷ 70 ∷ 69 ∷ 32 ∷ 51 ∷ 32 ∷ 50 ∷ 10 ∷ []
+unfolding lineAt verdictLine line numeral numeralIn safeWord
+counter-line n after = refl
+
+counter-printed : (before after : List ℕ) (t : Told) (n : ℕ) → length before ≡ 8192 → Means counterFile ofUser1 before after t n
+    → (n ≡ 0) × (lineAt t n after 0 ≡ 83 ∷ 65 ∷ 70 ∷ 69 ∷ 32 ∷ 51 ∷ 32 ∷ 50 ∷ 10 ∷ [])
+counter-printed before after t n e m =
+    let told-is = m .answer ∙ ap (told (reading counterFile) ofUser1) e ∙ counter-computed .3 in
+    let safe : t .verdict ≡ safeVerdict = ap (λ (x : Told). x .verdict) told-is in
+    (m .rows-none (λ l. omega arith) .0, ap (λ (x : Told). lineAt x n after 0) told-is ∙ counter-line n after)
+
+pub counter-prints : CounterPrints
+unfolding ofUser1 ProgramMeans
+counter-prints before after t n e m = counter-printed before after t n e m
 
 pub paper-cases : PaperCases
 unfolding table allHold counterFile hostNumber firstStep row shownRows shorterRows ofUser0 ofUser1 isTold replayNumber widest bitAt numberOf numberAt fieldAt tab sizeOf inSet allBelow subsetOf properOf unless first tested andThen taken within field check rowsRead rows pair via zeros ended readFile fewestFrom fewestBits bitsFor codes width opOf firstOf secondOf holderOf placeOf mayUse ofHolder names atomic nodeOk count headFormat largest attrFormat classFormat listsFormat valueFormat sessionFormat formulaFormat policyFormat answered reading attrOf partOf heldBy operand sizeOfOperand compared nodeSays said holds inLists listed someBelow countBelow opensWith changesTo makesWith modifiesTo accesses sessionOf itemOf begin tableFrom tableOf inTable round rounds closure reached reachedFrom helpers allBrought pairs canMake canModify made itemFrom ofOne whoCan whichCan leaks values says opening changing making modifying accessing userValue modelOf partsOf bitsOf stepOf cellOf openCell closedCell itemCell sessionIn sessionAt itemIn itemAt refused done testedStep ofSession ofItem numbers allGiven left sessionNow itemNow withSession withItem sessionGiven itemGiven openingStep makingStep modifyingStep accessingStep byKind stepIn over sessionCells itemCells nothingGiven started beginning questionOf whoOf whichOf whoAmong whichAmong partsAsk asks ranAll further rowsIn isOf whoFits whichFits stepFits lastFits judged played replayed sessionValues itemValues rowsNeeded refusedAnswer startsBrought decided told

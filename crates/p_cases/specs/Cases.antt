@@ -3,10 +3,10 @@
 -- Assumes nothing.
 use mathlib.Core.Path.{_≡_}
 use mathlib.Core.Bool.{Bool, true, not, _&&_}
-use mathlib.Core.List.{List, [], _∷_}
+use mathlib.Core.List.{List, [], _∷_, _++_}
 use Prim.Native.Nat.{ℕ}
 use lib.Dec.{eqb}
-use lib.ListN.{replicate}
+use lib.ListN.{length, replicate}
 use Rattle.bits.specs.Set.{properOf}
 use Rattle.policy.specs.Policy.{Policy, bitsFor}
 use Rattle.rules.specs.Answers.{Answer, refusal, rules, reading}
@@ -21,6 +21,8 @@ use Rattle.replay.specs.Replay.{replayed}
 use Rattle.analyser.specs.Told.{noVerdict, safeVerdict, leakVerdict, Told}
 use Rattle.analyser.specs.Answer.{rowsNeeded, told}
 use Rattle.analyser.specs.Never.{Never}
+use Rattle.output.specs.Lines.{lineAt}
+use Rattle.program.specs.Program.{ProgramMeans}
 
 -- the counter file
 unfoldable pub counterFile : List ℕ
@@ -107,6 +109,11 @@ allHold (r ∷ rs) = r .1 && allHold rs
 -- P1, of runs: of every list of steps, of any length, run from the counter file's start, no step in it grants user 1 permission 0 on any item
 abbrev pub CounterNever : Type 0
 CounterNever = (p : Policy) → reading counterFile ≡ rules p → Never p (user 1) anything 0
+
+-- [01:Counter file 4]: after hex 41 80 00 the program, which lends 8,192 rows, prints the counter file's answer as the single line `SAFE 3 2`
+abbrev pub CounterPrints : Type 0
+CounterPrints = (before after : List ℕ) (t : Told) (n : ℕ) → length before ≡ 8192 → ProgramMeans (ofUser1 ++ counterFile) before after t n
+    → (n ≡ 0) × (lineAt t n after 0 ≡ 83 ∷ 65 ∷ 70 ∷ 69 ∷ 32 ∷ 51 ∷ 32 ∷ 50 ∷ 10 ∷ [])
 
 -- every marked case holds
 abbrev pub PaperCases : Type 0

@@ -5,7 +5,7 @@ use replay::question::Question;
 fn main() {
     let mut input: [u8; 4096] = program::input_buffer();
     let n = io::read_full(libc::STDIN_FILENO, &mut input);
-    let mut rows: [u64; 66049] = [0; Question::ROWS];
+    let mut rows = [0u64; Question::ROWS];
     let a = program::answer_of(&input[..n], &mut rows);
     output::print_answer(a, &rows);
 }

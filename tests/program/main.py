@@ -1,4 +1,6 @@
-"""Runs the stored inputs of tests/vectors/runs.txt: at once, and in pieces of seven bytes where there are few. The exit status is 1 where anything differs."""
+"""Runs the stored inputs of tests/vectors/runs.txt: at once, and in pieces of seven bytes where there are few. Then the leaks of bench/inputs, of which
+any that replays will do: as many rows follow as the first line says, each four numbers, the last an access. The exit status is 1 where anything differs."""
+import glob
 import re
 import subprocess
 import sys
@@ -51,5 +53,13 @@ with open("tests/vectors/runs.txt", encoding="utf-8") as table:
             if found != expected + "\n":
                 wrong += 1
                 print(f"tests/vectors/runs.txt:{number}: expected {expected!r}, printed {found!r}")
-print(f"{inputs} inputs, {runs} runs, {wrong} wrong")
-sys.exit(1 if wrong or not runs else 0)
+leaks = sorted(glob.glob("bench/inputs/*.leak.in"))
+for path in leaks:
+    with open(path, "rb") as file:
+        found = printed("target/bin/rights_wide", [file.read()])
+    form = re.fullmatch(r"LEAK (\d+) \d+ \d+\n((?:[1-5] \d+ \d+ \d+\n)*6 \d+ \d+ \d+\n)", found)
+    if not form or form[2].count("\n") != int(form[1]):
+        wrong += 1
+        print(f"{path}: printed {found[:80]!r} ..")
+print(f"{inputs} inputs, {runs} runs, {len(leaks)} leaks, {wrong} wrong")
+sys.exit(1 if wrong or not runs or not leaks else 0)

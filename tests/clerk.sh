@@ -1,12 +1,8 @@
 #!/usr/bin/env bash
-# What docs/CLERK.md shows of the program is what it prints.
+# What README.md and docs/CLERK.md show of the programs is what they print.
 set -eu -o pipefail
 cd "$(dirname "$0")/.."
-work=$(mktemp -d)
-trap 'rm -rf "$work"' EXIT
+. tests/library.bash
+need python3 python3
 rt check rights >"$work/log" 2>&1 || { cat "$work/log"; exit 1; }
-for example in never leak; do
-    target/bin/rights <"examples/$example.in" >"$work/printed"
-    sed -n "/^    bin\/rights < examples\/$example.in\$/,/^\$/p" docs/CLERK.md | sed '1d; /^$/d; s/^    //' | diff - "$work/printed"
-done
-echo "two runs are as shown"
+python3 tests/shown.py README.md docs/CLERK.md

@@ -129,10 +129,7 @@ impl<'a> Builder<'a> {
 
     /// The node of a part named before; a name that is compared with something is a constant instead.
     fn earlier_part(&self, words: &Words) -> Option<u32> {
-        let name = match words.peek() {
-            Word::Name(name) => name,
-            _ => return None,
-        };
+        let name = words.peek_name()?;
         let compared = match words.peek_second() {
             Word::Mark(mark) => ["=", "<", "<="].contains(mark),
             Word::Name(word) => ["in", "subset", "proper"].contains(&word.as_str()),

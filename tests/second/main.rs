@@ -1,4 +1,5 @@
-//! The command-line tool of the second program. It reads standard input and writes standard output:
+//! The command-line tool of the second program, for the tests alone: nothing here is proved, and no command of bin/
+//! uses it. It reads standard input and writes standard output:
 //!
 //!     second rights     question and file in, the verdict out
 //!     second assemble   readable rules in, the file out

@@ -8,7 +8,10 @@ use super::words::{Bad, Word, Words};
 const ATTRIBUTES: usize = 8;
 const USERS: usize = 16;
 const PERMISSIONS: usize = 8;
-const STARTING: u8 = 32;
+const STARTING: usize = 32;
+
+/// Words that begin declarations, now or later, and so name no starting session or item without quotes.
+const BEGINNINGS: [&str; 6] = ["expect", "list", "order", "amounts", "firm", "section"];
 
 /// The classes as people write them.
 pub const CLASSES: [&str; 3] = ["user", "session", "item"];
@@ -31,12 +34,17 @@ impl Named {
 pub struct Names {
     pub attributes: [Vec<Named>; 3],
     pub users: Vec<String>,
+    /// The starting sessions and items; unnamed ones are called by their number.
+    pub sessions: Vec<String>,
+    pub items: Vec<String>,
     pub permissions: Vec<String>,
 }
 
 impl Names {
     pub fn none() -> Names {
-        Names { attributes: [Vec::new(), Vec::new(), Vec::new()], users: Vec::new(), permissions: Vec::new() }
+        let attributes = [Vec::new(), Vec::new(), Vec::new()];
+        let (users, sessions, items, permissions) = (Vec::new(), Vec::new(), Vec::new(), Vec::new());
+        Names { attributes, users, sessions, items, permissions }
     }
 
     fn plain(&self, class: usize) -> Vec<Attribute> {
@@ -53,6 +61,26 @@ fn new_name(words: &mut Words, known: &[String], most: usize, what: &str) -> Res
     }
     if known.len() == most {
         return Err((line, format!("a file holds at most {most}: {what} `{name}` is one too many")));
+    }
+    Ok(name)
+}
+
+/// Whether a name of this class is kept for another number: only session 3 can be `session_3`.
+fn is_kept(name: &str, class: usize, place: usize) -> bool {
+    let number = name.strip_prefix(CLASSES[class]).and_then(|rest| rest.strip_prefix('_')).unwrap_or("");
+    let counted = number == "0" || !number.is_empty() && !number.starts_with('0');
+    counted && number.chars().all(|digit| digit.is_ascii_digit()) && number != place.to_string()
+}
+
+/// The name of the next starting session or item: its own, or one by its number where no name stands.
+fn starting_name(words: &mut Words, known: &[String], class: usize) -> Result<String, Bad> {
+    if words.peek_name().is_none() || words.is_one_of(&BEGINNINGS) {
+        return Ok(format!("{}_{}", CLASSES[class], known.len()));
+    }
+    let line = words.line();
+    let name = new_name(words, known, STARTING, &format!("a starting {}", CLASSES[class]))?;
+    if is_kept(&name, class, known.len()) {
+        return Err((line, format!("`{name}` is the name of another number, this is {}", known.len())));
     }
     Ok(name)
 }
@@ -113,8 +141,7 @@ pub fn attribute(words: &mut Words, names: &mut Names, raw: &mut RawRules, class
 fn member(words: &mut Words, named: &Named) -> Result<u32, Bad> {
     let number = match words.peek() {
         Word::Number(number) => Some(*number),
-        Word::Name(name) => named.number_of(name),
-        _ => None,
+        _ => words.peek_name().and_then(|name| named.number_of(name)),
     };
     match number {
         Some(number) if number < named.attribute.size => {
@@ -179,32 +206,38 @@ pub fn user(words: &mut Words, names: &mut Names, raw: &mut RawRules) -> Result<
     Ok(())
 }
 
-/// `session of USER: VALUES`, after the word `session`.
-pub fn session(words: &mut Words, names: &Names, raw: &mut RawRules) -> Result<(), Bad> {
+/// `session [NAME] of USER: VALUES`, after the word `session`.
+pub fn session(words: &mut Words, names: &mut Names, raw: &mut RawRules) -> Result<(), Bad> {
     let line = words.line();
+    let own = starting_name(words, &names.sessions, super::rules::SESSION)?;
     words.expect("of")?;
     let name = words.name()?;
     let owner = match names.users.iter().position(|user| *user == name) {
         Some(owner) => owner,
         None => return Err((line, format!("there is no user `{name}` so far"))),
     };
-    if raw.sessions.count == STARTING {
+    let place = names.sessions.len();
+    if place == STARTING {
         return Err((line, "a file holds at most 32 starting sessions".to_string()));
     }
-    let place = raw.sessions.count as usize;
     raw.sessions.owners[place] = owner as u8;
     raw.sessions.values[place] = value(words, names, super::rules::SESSION)?;
     raw.sessions.count += 1;
+    names.sessions.push(own);
     Ok(())
 }
 
-/// `item: VALUES`, after the word `item`.
-pub fn item(words: &mut Words, names: &Names, raw: &mut RawRules) -> Result<(), Bad> {
-    if raw.items.count == STARTING {
-        return words.bad("a file holds at most 32 starting items");
+/// `item [NAME]: VALUES`, after the word `item`.
+pub fn item(words: &mut Words, names: &mut Names, raw: &mut RawRules) -> Result<(), Bad> {
+    let line = words.line();
+    let own = starting_name(words, &names.items, super::rules::ITEM)?;
+    let place = names.items.len();
+    if place == STARTING {
+        return Err((line, "a file holds at most 32 starting items".to_string()));
     }
-    raw.items.values[raw.items.count as usize] = value(words, names, super::rules::ITEM)?;
+    raw.items.values[place] = value(words, names, super::rules::ITEM)?;
     raw.items.count += 1;
+    names.items.push(own);
     Ok(())
 }
 

@@ -1,5 +1,6 @@
-//! Readable rule text, last part: from a text to a file and back. TEXT.md describes the language.
+//! Readable rule text, last part: from a text to a file and back. docs/TEXT.md describes the language.
 
+use super::expectation::{expectation, Asked, Expectation};
 use super::expression::{formula, HOLDERS};
 use super::formula::HOLD_CONSTANT;
 use super::names::{attribute, item, permission, session, user, Names, CLASSES};
@@ -17,6 +18,7 @@ struct Assembler {
     words: Words,
     names: Names,
     raw: RawRules,
+    expectations: Vec<Expectation>,
 }
 
 impl Assembler {
@@ -65,6 +67,10 @@ impl Assembler {
     }
 
     fn declaration(&mut self) -> Result<(), Bad> {
+        if self.words.take_if("expect") {
+            self.expectations.push(expectation(&mut self.words)?);
+            return Ok(());
+        }
         if self.words.take_if("permission") {
             return permission(&mut self.words, &mut self.names, &mut self.raw);
         }
@@ -77,13 +83,13 @@ impl Assembler {
         }
         match class {
             USER => user(&mut self.words, &mut self.names, &mut self.raw),
-            SESSION => session(&mut self.words, &self.names, &mut self.raw),
-            _ => item(&mut self.words, &self.names, &mut self.raw),
+            SESSION => session(&mut self.words, &mut self.names, &mut self.raw),
+            _ => item(&mut self.words, &mut self.names, &mut self.raw),
         }
     }
 
-    /// What a whole text must have.
-    fn finish(&self) -> Result<Vec<u8>, Bad> {
+    /// What a whole text must have: the file, and what its expectations ask.
+    fn finish(&self) -> Result<(Vec<u8>, Vec<Asked>), Bad> {
         if self.names.users.is_empty() {
             return self.words.bad("there is no user");
         }
@@ -100,18 +106,27 @@ impl Assembler {
                 return self.words.bad(&format!("there is no formula `allow {permission}`"));
             }
         }
-        file_of(&self.raw).or_else(|number| self.words.bad(&format!("no file can hold these rules: {number}")))
+        let asked: Result<Vec<Asked>, Bad> = self.expectations.iter().map(|one| one.asked(&self.names)).collect();
+        match file_of(&self.raw) {
+            Ok(bytes) => asked.map(|asked| (bytes, asked)),
+            Err(number) => self.words.bad(&format!("no file can hold these rules: {number}")),
+        }
     }
 }
 
-/// The file of a text, or the line and the reason why the text is bad.
-pub fn assemble(text: &str) -> Result<Vec<u8>, (usize, String)> {
+/// The file of a text and what its expectations ask, or the line and the reason why the text is bad.
+pub fn assemble_with_expectations(text: &str) -> Result<(Vec<u8>, Vec<Asked>), Bad> {
     let words = Words::of(text)?;
-    let mut assembler = Assembler { words, names: Names::none(), raw: RawRules::zero() };
+    let mut assembler = Assembler { words, names: Names::none(), raw: RawRules::zero(), expectations: Vec::new() };
     while *assembler.words.peek() != Word::End {
         assembler.declaration()?;
     }
     assembler.finish()
+}
+
+/// The file of a text, or the line and the reason why the text is bad. Expectations leave nothing in it.
+pub fn assemble(text: &str) -> Result<Vec<u8>, Bad> {
+    assemble_with_expectations(text).map(|(bytes, _)| bytes)
 }
 
 /// The value of a holder as text.

@@ -5,14 +5,17 @@ pub type Bad = (usize, String);
 
 #[derive(Clone, Debug, PartialEq, Eq)]
 pub enum Word {
+    /// A run of letters, digits and underscores: a name or a word of the language.
     Name(String),
+    /// What stood between double quotes: always a name.
+    Quoted(String),
     Number(u32),
     /// One of `: , . { } ( ) = < <=`.
     Mark(&'static str),
     End,
 }
 
-/// Words that are part of the language and name nothing.
+/// Words that are part of the language and, without quotes, name nothing.
 const RESERVED: [&str; 22] = [
     "user", "session", "item", "new", "attribute", "one", "set", "of", "permission", "open", "change", "make", "allow",
     "let", "and", "or", "not", "in", "subset", "proper", "true", "false",
@@ -21,8 +24,21 @@ const RESERVED: [&str; 22] = [
 /// The marks, longer ones before those they begin with.
 const MARKS: [&str; 10] = ["<=", "<", "=", ":", ",", ".", "{", "}", "(", ")"];
 
+/// Letters may be of any alphabet, digits are 0 to 9.
 fn is_name_part(letter: char) -> bool {
-    letter.is_ascii_alphanumeric() || letter == '_'
+    letter.is_alphabetic() || letter.is_ascii_digit() || letter == '_'
+}
+
+/// The name in front of the next double quote, and what follows that quote.
+fn quoted(text: &str, line: usize) -> Result<(&str, &str), Bad> {
+    let (name, rest) = text.split_once('"').ok_or((line, "this name has no closing quote in its line".to_string()))?;
+    if name.is_empty() {
+        return Err((line, "there is no name between these quotes".to_string()));
+    }
+    if name.chars().any(char::is_control) {
+        return Err((line, "a control character stands in this name".to_string()));
+    }
+    Ok((name, rest))
 }
 
 /// The word of a run of letters, digits and underscores.
@@ -38,9 +54,16 @@ fn name_or_number(run: &str, line: usize) -> Result<Word, Bad> {
 
 /// The words of one line, up to its comment.
 fn cut_line(line: usize, text: &str, words: &mut Vec<(usize, Word)>) -> Result<(), Bad> {
-    let mut rest = text.split('#').next().unwrap_or("").trim_start();
+    let mut rest = text.trim_start();
     while let Some(first) = rest.chars().next() {
-        if is_name_part(first) {
+        if first == '#' {
+            return Ok(());
+        }
+        if first == '"' {
+            let (name, after) = quoted(&rest[1..], line)?;
+            words.push((line, Word::Quoted(name.to_string())));
+            rest = after;
+        } else if is_name_part(first) {
             let end = rest.find(|letter| !is_name_part(letter)).unwrap_or(rest.len());
             words.push((line, name_or_number(&rest[..end], line)?));
             rest = &rest[end..];
@@ -62,7 +85,9 @@ pub struct Words {
 }
 
 impl Words {
+    /// The words of a whole text; a byte order mark at its start is passed over.
     pub fn of(text: &str) -> Result<Words, Bad> {
+        let text = text.strip_prefix('\u{FEFF}').unwrap_or(text);
         let mut words = Vec::new();
         for (number, line) in text.lines().enumerate() {
             cut_line(number + 1, line, &mut words)?;
@@ -121,14 +146,28 @@ impl Words {
         self.bad(&format!("`{text}` should stand here, not {}", shown(self.peek())))
     }
 
-    /// Takes a name away that is not a word of the language.
+    /// The next word if it is a name and not a reserved word of the language.
+    pub fn peek_name(&self) -> Option<&str> {
+        match self.peek() {
+            Word::Quoted(name) => Some(name),
+            Word::Name(name) if !RESERVED.contains(&name.as_str()) => Some(name),
+            _ => None,
+        }
+    }
+
+    /// Whether the next word is one of these without quotes.
+    pub fn is_one_of(&self, texts: &[&str]) -> bool {
+        texts.iter().any(|text| self.is_next(text))
+    }
+
+    /// Takes a name away that is not a reserved word of the language.
     pub fn name(&mut self) -> Result<String, Bad> {
-        match self.peek().clone() {
-            Word::Name(name) if !RESERVED.contains(&name.as_str()) => {
+        match self.peek_name().map(str::to_string) {
+            Some(name) => {
                 self.place += 1;
                 Ok(name)
             }
-            other => self.bad(&format!("a name should stand here, not {}", shown(&other))),
+            None => self.bad(&format!("a name should stand here, not {}", shown(self.peek()))),
         }
     }
 
@@ -142,6 +181,7 @@ impl Words {
 pub fn shown(word: &Word) -> String {
     match word {
         Word::Name(name) => format!("`{name}`"),
+        Word::Quoted(name) => format!("`\"{name}\"`"),
         Word::Number(number) => format!("`{number}`"),
         Word::Mark(mark) => format!("`{mark}`"),
         Word::End => "the end of the text".to_string(),

@@ -3,6 +3,7 @@
 
 mod analysing;
 mod files;
+mod named;
 mod random;
 mod replaying;
 mod sampled;
@@ -61,13 +62,14 @@ pub fn file(text: &str) -> Vec<u8> {
 pub fn selftest() -> Result<Vec<u8>, String> {
     let mut checks = Checks { made: 0, failed: Vec::new() };
     let mut report = String::new();
-    let parts: [(&str, fn(&mut Checks)); 8] = [
+    let parts: [(&str, fn(&mut Checks)); 9] = [
         ("reading files", files::all),
         ("writing files", writing::all),
         ("steps on cells", stepping::all),
         ("replaying", replaying::all),
         ("analysing", analysing::all),
         ("readable text", texts::all),
+        ("names and expectations", named::all),
         ("random files", sampled::all),
         ("wide files", speed::all),
     ];

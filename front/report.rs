@@ -1,0 +1,77 @@
+//! Faults, warnings and notes, with their places in a text.
+
+/// Characters of one line: line and column count from 1. Line 0 is no place.
+#[derive(Clone, Copy, Debug, Default, PartialEq, Eq, PartialOrd, Ord)]
+pub struct Place {
+    pub line: usize,
+    pub column: usize,
+    pub length: usize,
+}
+
+#[derive(Clone, Copy, Debug, PartialEq, Eq)]
+pub enum Severity {
+    Error,
+    Warning,
+    Note,
+    /// A number of the library.
+    Refused,
+}
+
+impl Severity {
+    pub fn word(self) -> &'static str {
+        ["error", "warning", "note", "refused"][self as usize]
+    }
+}
+
+/// What is said of a place, and what would be right.
+#[derive(Clone, Debug)]
+pub struct Report {
+    pub severity: Severity,
+    pub place: Place,
+    pub message: String,
+    pub help: Option<String>,
+}
+
+impl Report {
+    pub fn error(place: Place, message: String, help: Option<String>) -> Report {
+        Report { severity: Severity::Error, place, message, help }
+    }
+
+    pub fn warning(place: Place, message: String, help: Option<String>) -> Report {
+        Report { severity: Severity::Warning, place, message, help }
+    }
+
+    pub fn note(place: Place, message: String) -> Report {
+        Report { severity: Severity::Note, place, message, help: None }
+    }
+}
+
+/// A character as it is shown: one that a terminal would obey, or that turns the direction of writing, is shown as `?`.
+pub fn shown(c: char) -> char {
+    match c {
+        '\t' => ' ',
+        _ if is_control(c) => '?',
+        _ => c,
+    }
+}
+
+/// Characters that are not shown but obeyed; no name has one.
+pub fn is_control(c: char) -> bool {
+    c.is_control() || matches!(c, '\u{200E}' | '\u{200F}' | '\u{2028}'..='\u{202E}' | '\u{2066}'..='\u{2069}')
+}
+
+/// The report of a place in a text: `NAME:LINE:COLUMN: error: MESSAGE`, the line, carets, what would be right. `word` is the severity's, in its colour.
+pub fn in_text(name: &str, text: &str, report: &Report, word: &str) -> String {
+    let Place { line, column, length } = report.place;
+    let mut told = format!("{name}:{line}:{column}: {word} {}\n", report.message);
+    if report.severity == Severity::Note {
+        return told;
+    }
+    let source: String = text.lines().nth(line - 1).unwrap_or("").trim_start_matches('\u{FEFF}').chars().map(shown).collect();
+    told += &format!("{line:>5} | {}\n", source.trim_end());
+    told += &format!("      | {}{}\n", " ".repeat(column - 1), "^".repeat(length.max(1)));
+    if let Some(help) = &report.help {
+        told += &format!("      = {help}\n");
+    }
+    told
+}

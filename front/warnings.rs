@@ -1,0 +1,99 @@
+//! Warnings and notes on a text without faults.
+
+use crate::messages;
+use crate::model::{Attribute, Comparison, Node, Rules, Side, CLASSES};
+use crate::names::listed;
+use crate::phrase;
+use crate::reader::Named;
+use crate::report::{Place, Report};
+
+/// So many pairs of values are shown.
+const PAIRS: usize = 4;
+
+/// What the formulas of a text say that their nodes do not.
+#[derive(Default)]
+pub struct Seen {
+    pub compared: Vec<Compared>,
+    pub unused_parts: Vec<Named>,
+}
+
+pub struct Compared {
+    pub comparison: Comparison,
+    pub sides: [Side; 2],
+    /// The operator's.
+    pub place: Place,
+}
+
+pub fn of(rules: &Rules, seen: &Seen) -> Vec<Report> {
+    let mut reports: Vec<Report> = seen.compared.iter().filter_map(|compared| by_number(rules, compared)).collect();
+    reports.extend(seen.unused_parts.iter().map(|part| Report::warning(part.place, messages::unused_part(&part.name), Some(messages::drop_part().to_string()))));
+    reports.extend(unused_attributes(rules));
+    reports.extend(orders(rules, &seen.compared));
+    reports
+}
+
+/// Two attributes are compared by number although their lists have other names for some number.
+fn by_number(rules: &Rules, compared: &Compared) -> Option<Report> {
+    let [left, right] = [rules.attribute(compared.sides[0])?, rules.attribute(compared.sides[1])?];
+    let differing = left.names.iter().zip(&right.names).filter(|(l, r)| l != r);
+    let mut pairs: Vec<String> = differing.map(|(l, r)| format!("{} = {}", phrase::name(l), phrase::name(r))).collect();
+    if pairs.is_empty() {
+        return None;
+    }
+    if pairs.len() > PAIRS {
+        pairs.truncate(PAIRS);
+        pairs.push("..".to_string());
+    }
+    let message = if sorted(left) == sorted(right) { messages::other_order() } else { messages::other_names() };
+    let help = messages::write_alike(&listed(pairs.iter().map(String::as_str)));
+    Some(Report::warning(compared.place, message.to_string(), Some(help)))
+}
+
+fn sorted(attribute: &Attribute) -> Vec<&String> {
+    let mut names: Vec<&String> = attribute.names.iter().collect();
+    names.sort();
+    names
+}
+
+fn unused_attributes(rules: &Rules) -> Vec<Report> {
+    let mut used: Vec<(usize, usize)> = Vec::new();
+    for node in rules.formulas.iter().flat_map(|formula| &formula.nodes) {
+        if let Node::Compare(_, left, right) = node {
+            used.extend([left, right].into_iter().filter_map(class_and_number));
+        }
+    }
+    let mut reports = Vec::new();
+    for class in CLASSES {
+        for (number, attribute) in rules.of(class).iter().enumerate() {
+            if !used.contains(&(class as usize, number)) {
+                let message = messages::unused_attribute(&attribute.name, class.word());
+                reports.push(Report::warning(attribute.place, message, Some(messages::drop_attribute().to_string())));
+            }
+        }
+    }
+    reports
+}
+
+fn class_and_number(side: &Side) -> Option<(usize, usize)> {
+    match side {
+        Side::Attribute(speaker, number) => Some((speaker.class() as usize, *number)),
+        Side::Constant(_) => None,
+    }
+}
+
+/// A note for each list of names and each operator that goes by its order, at the first place.
+fn orders(rules: &Rules, compared: &[Compared]) -> Vec<Report> {
+    let mut noted: Vec<(Comparison, &[String])> = Vec::new();
+    let mut reports = Vec::new();
+    for Compared { comparison, sides, place } in compared.iter().filter(|c| matches!(c.comparison, Comparison::Below | Comparison::AtMost)) {
+        for names in sides.iter().filter_map(|side| rules.attribute(*side)).map(|a| a.names.as_slice()) {
+            if names.is_empty() || noted.contains(&(*comparison, names)) {
+                continue;
+            }
+            noted.push((*comparison, names));
+            let order: Vec<String> = names.iter().map(|name| phrase::name(name)).collect();
+            reports.push(Report::note(*place, messages::goes_by_order(comparison.words(), &order.join(" < "))));
+        }
+    }
+    reports
+}

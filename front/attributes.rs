@@ -90,7 +90,7 @@ impl Reader {
         loop {
             let help = match self.word().token {
                 Token::Number(_) => messages::list_of_numbers(),
-                Token::Mark("}") if names.is_empty() => messages::empty_list(),
+                Token::Mark("}") if names.is_empty() => messages::list_sizes(),
                 Token::Mark("}") => messages::last_comma(),
                 _ => "",
             };
@@ -99,24 +99,25 @@ impl Reader {
             }
             let named = self.name("a name")?;
             let first = names.iter().take(16).find(|other| other.name == named.name).map(|other| other.place);
-            self.is_new("a value", &named, first);
+            if !self.passed_over {
+                self.is_new("a value", &named, first);
+            }
             names.push(named);
             if self.take("}") {
                 return Ok(names);
             }
-            self.comma("}")?;
+            self.comma()?;
         }
     }
 
-    /// A comma between two names or values. One that is missing is passed over.
-    pub fn comma(&mut self, close: &str) -> Read<()> {
+    /// A comma between two names or values in braces. One that is missing is passed over.
+    pub fn comma(&mut self) -> Read<()> {
         if self.take(",") {
             return Ok(());
         }
-        let lacks = self.sees_name(0) || matches!(self.word().token, Token::Number(_));
-        let wanted = format!("`,` or `{close}`");
-        let lost = self.misplaced(&wanted);
-        if lacks {
+        let more = self.sees_name(0) || matches!(self.word().token, Token::Number(_));
+        let lost = self.misplaced("`,` or `}`");
+        if more {
             Ok(())
         } else {
             Err(lost)

@@ -9,7 +9,7 @@ use crate::names::ticked;
 use crate::phrase;
 use crate::reader::{through, Lost, Read, Reader};
 use crate::report::Place;
-use crate::signs::{meant_of, operator_for};
+use crate::signs::operator_for;
 use crate::warnings::Compared;
 use crate::words::Token;
 
@@ -39,8 +39,30 @@ impl Reader {
     pub fn comparison(&mut self, body: &Body) -> Read<(Node, Place)> {
         let left = self.side(body, "a formula", messages::answer_form())?;
         let (comparison, place) = self.operator(&left)?;
+        if self.resumes() && !self.is_listed(&left) {
+            return Err(self.misplaced_for("the other side", messages::side_form()));
+        }
         let right = self.side(body, "the other side", messages::side_form())?;
-        Ok((self.compared(body, left, comparison, right, place).unwrap_or(Node::False), place))
+        if self.sees_any(0, &COMPARATORS) {
+            let help = if matches!(left.value, Value::Name(_)) { messages::part_form() } else { messages::two_sides() };
+            return Err(self.compares_no_value(help));
+        }
+        Ok((self.compared(body, left, comparison, right, place)?.unwrap_or(Node::False), place))
+    }
+
+    /// An operator stands after something that is no value.
+    pub fn compares_no_value(&mut self, help: &str) -> Lost {
+        let place = self.word().place;
+        self.lost(place, messages::compares_no_value(&self.source(place)), help)
+    }
+
+    /// Whether the present word is a name from the list of a side.
+    fn is_listed(&self, side: &Term) -> bool {
+        let attribute = match side.value {
+            Value::Known(side) => self.rules.attribute(side),
+            _ => None,
+        };
+        attribute.map_or(false, |a| a.names.iter().any(|name| self.sees(0, name)))
     }
 
     fn side(&mut self, body: &Body, wanted: &str, form: &str) -> Read<Term> {
@@ -52,23 +74,23 @@ impl Reader {
         if self.sees(0, "let") {
             return Err(self.lost(place, messages::late_part(), messages::parts_first()));
         }
-        let value = match token {
-            Token::Number(number) if number <= GREATEST => Value::Known(Side::Constant(number as u8)),
+        let (value, text) = match token {
+            Token::Number(_) if self.sees(1, ".") => return self.no_speaker(body),
+            Token::Number(number) if number <= GREATEST => (Value::Known(Side::Constant(number as u8)), number.to_string()),
             Token::Number(_) => {
-                self.fault(place, messages::constant(&self.source(place)), messages::constants());
-                Value::Unknown
+                self.fault(place, messages::constant(&self.source(place)), messages::side_form());
+                (Value::Unknown, String::new())
             }
+            Token::Name(_) | Token::Quoted(_) if self.sees_name(0) && self.sees(1, ".") => return self.no_speaker(body),
             Token::Name(name) | Token::Quoted(name) if self.sees_name(0) => {
-                if self.sees(1, ".") {
-                    return self.no_speaker(body, &name);
-                }
-                Value::Name(name)
+                let text = phrase::name(&name);
+                (Value::Name(name), text)
             }
             Token::Mark("{") => return Err(self.misplaced_for(wanted, messages::no_written_set())),
             _ => return Err(self.misplaced_for(wanted, form)),
         };
         self.step();
-        Ok(Term { value, place, text: self.source(place) })
+        Ok(Term { value, place, text })
     }
 
     /// `new session.role`.
@@ -81,12 +103,11 @@ impl Reader {
         if !self.take(".") {
             return Err(self.misplaced_for("`.`", messages::instead(&format!("{}.ATTRIBUTE", speaker.words()))));
         }
-        let named = self.name("an attribute")?;
-        let number = self.attribute_number(speaker.class(), &named);
+        let (named, number) = self.attribute_name(speaker.class())?;
         Ok(Term {
             value: number.map_or(Value::Unknown, |number| Value::Known(Side::Attribute(speaker, number))),
             place: through(start, named.place),
-            text: format!("{}.{}", speaker.words(), phrase::name(&named.name)),
+            text: format!("{}.{}", speaker.words(), named.shown()),
         })
     }
 
@@ -107,11 +128,11 @@ impl Reader {
         Err(self.misplaced_for("`session` or `item`", messages::new_ones()))
     }
 
-    /// A name before a point that is no speaker; the attribute after it is passed over.
-    fn no_speaker(&mut self, body: &Body, name: &str) -> Read<Term> {
+    /// What stands before a point is no speaker; the attribute after it is passed over.
+    fn no_speaker(&mut self, body: &Body) -> Read<Term> {
         let place = self.word().place;
         let speakers: Vec<&str> = body.speakers.iter().map(|speaker| speaker.words()).collect();
-        let help = match meant_of(name, &speakers) {
+        let help = match self.meant_word(0, &speakers) {
             Some(word) => did_you_mean(&self.here(body), word),
             None => self.here(body),
         };
@@ -162,21 +183,26 @@ impl Reader {
     }
 
     /// The node of a comparison; nothing, with a fault, where the sides do not fit.
-    fn compared(&mut self, body: &Body, left: Term, comparison: Comparison, right: Term, place: Place) -> Option<Node> {
-        let kinds = [self.is_set(&left)?, self.is_set(&right)?];
+    fn compared(&mut self, body: &Body, left: Term, comparison: Comparison, right: Term, place: Place) -> Read<Option<Node>> {
+        let kinds = match (self.is_set(&left), self.is_set(&right)) {
+            (Some(left), Some(right)) => [left, right],
+            _ => return Ok(None),
+        };
         let bare = [&left, &right].into_iter().find(|term| matches!(term.value, Value::Name(_)));
         if let (Some(term), false) = (bare, is_attribute(&left) || is_attribute(&right)) {
             self.fault(term.place, messages::no_list(&term.text), messages::one_attribute());
-            return None;
+            return Ok(None);
         }
         if kinds != comparison.sets() {
             self.unfit(&left, &right, comparison, kinds);
-            return None;
+            return Ok(None);
         }
-        let (a, b) = (self.looked_up(body, &left, &right), self.looked_up(body, &right, &left));
-        let (a, b) = (a?, b?);
-        self.seen.compared.push(Compared { comparison, sides: [a, b], place });
-        Some(Node::Compare(comparison, a, b))
+        let sides = (self.looked_up(body, &left, &right)?, self.looked_up(body, &right, &left)?);
+        if let (Some(a), Some(b)) = sides {
+            self.seen.compared.push(Compared { comparison, sides: [a, b], place });
+            return Ok(Some(Node::Compare(comparison, a, b)));
+        }
+        Ok(None)
     }
 
     /// Whether a side is a set; nothing of a side that is not known.
@@ -205,19 +231,22 @@ impl Reader {
         self.fault(term.place, message, messages::instead(&way));
     }
 
-    /// A side, its name looked up in the list of the other one.
-    fn looked_up(&mut self, body: &Body, term: &Term, other: &Term) -> Option<Side> {
+    /// A side, its name looked up in the list of the other one. A part in its place may be the formula's answer, so nothing after it is read.
+    fn looked_up(&mut self, body: &Body, term: &Term, other: &Term) -> Read<Option<Side>> {
         let (name, attribute) = match (&term.value, &other.value) {
-            (Value::Known(side), _) => return Some(*side),
-            (Value::Name(name), Value::Known(side)) => (name, self.rules.attribute(*side)?.clone()),
-            _ => return None,
+            (Value::Known(side), _) => return Ok(Some(*side)),
+            (Value::Name(name), Value::Known(side)) => (name, self.rules.attribute(*side).cloned()),
+            _ => return Ok(None),
         };
-        let number = attribute.names.iter().position(|n| n == name);
-        if number.is_none() {
-            let help = if body.has_part(name) { messages::is_part(name) } else { in_list(&attribute, name) };
-            self.fault(term.place, not_in_list(name, &other.text), help);
+        let number = attribute.iter().flat_map(|a| &a.names).position(|n| n == name);
+        if let (None, Some(attribute)) = (number, attribute) {
+            let message = not_in_list(name, &other.text);
+            if body.has_part(name) {
+                return Err(self.lost(term.place, message, messages::is_part(name)));
+            }
+            self.fault(term.place, message, in_list(&attribute, name));
         }
-        number.map(|number| Side::Constant(number as u8))
+        Ok(number.map(|number| Side::Constant(number as u8)))
     }
 }
 

@@ -35,6 +35,9 @@ impl Reader {
         let never = self.sees(0, "never");
         self.step();
         let permission = self.at();
+        if self.resumes() && !self.is_permission("expect") {
+            return Err(self.misplaced("the name of a permission"));
+        }
         self.name("the name of a permission")?;
         let item = self.at();
         if self.take("on") {
@@ -48,6 +51,11 @@ impl Reader {
             self.expected.push(Expected { never, place, who, permission, item });
         }
         Ok(())
+    }
+
+    /// Whether the text declares a permission of this name.
+    fn is_permission(&self, name: &str) -> bool {
+        self.rules.permissions.iter().any(|p| p.name == name) || self.comes_later(&["permission"], name).is_some()
     }
 
     fn expected_who(&mut self) -> Read<()> {
@@ -97,21 +105,21 @@ impl Reader {
     /// Looks up the names of all expectations.
     pub fn expectations(&mut self) {
         for Expected { never, place, who, permission, item } in std::mem::take(&mut self.expected) {
-            if self.has_enough() {
+            if self.is_enough() {
                 return;
             }
             let asked = question::who(&self.rules, self.words_from(who)).map(|(who, _)| who);
             let used = question::permission(&self.rules, self.words_from(permission)).map(|(permission, _)| permission);
             let target = question::item(&self.rules, self.words_from(item)).map(|(item, _)| item);
-            let found = (self.unless_unread(asked), self.unless_unread(used), self.unless_unread(target));
+            let found = (self.found(asked, who), self.found(used, permission), self.found(target, item));
             if let (Some(who), Some(permission), Some(item)) = found {
                 self.rules.expectations.push(Expectation { question: Question { who, permission, item }, never, place });
             }
         }
     }
 
-    /// What was found; else the report is kept, unless the name may stand in a declaration that could not be read.
-    fn unless_unread<T>(&mut self, found: Result<T, Report>) -> Option<T> {
+    /// What the words from this number on name. If they name nothing, that is reported, unless a lost declaration may have the name.
+    fn found<T>(&mut self, found: Result<T, Report>, from: usize) -> Option<T> {
         let report = match found {
             Ok(found) => return Some(found),
             Err(report) => report,
@@ -120,7 +128,7 @@ impl Reader {
             Token::Name(name) | Token::Quoted(name) => ["user", "session", "item", "permission"].iter().any(|what| self.unread.has(what, name)),
             _ => self.unread.miscounted,
         };
-        if !self.words_from(0).iter().any(|word| word.place == report.place && unread(word)) {
+        if !self.words_from(from).iter().take(3).any(|word| word.place == report.place && unread(word)) {
             self.reports.push(report);
         }
         None

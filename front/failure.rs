@@ -76,7 +76,7 @@ fn object(failure: &Failure, command: &str) -> Json {
         Failure::Said { .. } => (named(Json::Null), None),
         Failure::Question { file, .. } => (file.clone(), None),
         Failure::Faults { name, .. } => (named(Json::text(name)), None),
-        Failure::Refused { name, number, .. } => (named(Json::text(name)), Some(*number)),
+        Failure::Refused { file, number, .. } => (file.clone(), Some(*number)),
     };
     let mut members = vec![("command", Json::text(command)), ("file", file)];
     for key in keys(command) {

@@ -10,13 +10,13 @@ use crate::words::{Token, Word};
 /// The words that declarations begin with.
 pub const BEGINNINGS: [&str; 9] = ["user", "session", "item", "permission", "open", "change", "make", "allow", "expect"];
 
-/// More faults than anybody reads: no more are kept, and the rest of the text is not read.
+/// More faults than anybody reads: after so many the rest of the text is not read.
 pub const ENOUGH: usize = 100;
 
 impl Reader {
     /// Reads declarations to the text's end.
     pub fn declarations(&mut self) {
-        while !self.at_end() && !self.has_enough() {
+        while !self.at_end() {
             let from = self.at();
             self.passed_over = false;
             if self.declaration().is_err() {
@@ -25,7 +25,7 @@ impl Reader {
         }
     }
 
-    /// Goes on to where a declaration begins a line. The names of the lost one are kept.
+    /// After a lost declaration: goes on to where one begins a line, and keeps the names that stand before.
     fn resume(&mut self, from: usize) {
         if self.at() == from {
             self.step();
@@ -58,13 +58,17 @@ impl Reader {
 
     /// A fault after which reading goes on in place.
     pub fn fault(&mut self, place: Place, message: impl Into<String>, help: impl Into<String>) {
-        if !self.has_enough() {
-            self.reports.push(Report::error(place, message.into(), Some(help.into())));
+        if self.is_enough() {
+            return;
+        }
+        self.reports.push(Report::error(place, message.into(), Some(help.into())));
+        if self.is_enough() {
+            self.give_up();
         }
     }
 
-    /// Whether no more faults are kept.
-    pub fn has_enough(&self) -> bool {
+    /// Whether the rest of the text is not read.
+    pub fn is_enough(&self) -> bool {
         self.reports.len() >= ENOUGH
     }
 
@@ -89,6 +93,9 @@ impl Reader {
 
     /// The present word cannot stand here. Where the text ends or a declaration begins a line, the word before it is shown.
     pub fn misplaced_for(&mut self, wanted: &str, help: impl Into<String>) -> Lost {
+        if self.passed_over {
+            return Lost;
+        }
         let place = self.word().place;
         if let Some((message, instead)) = self.sign() {
             return self.lost(place, message, instead);
@@ -125,7 +132,7 @@ impl Reader {
     }
 
     /// The one of these words that the word so many words later is in capitals, or nearly.
-    pub fn meant_word(&self, words: usize, of: &[&'static str]) -> Option<&'static str> {
+    pub fn meant_word<'a>(&self, words: usize, of: &[&'a str]) -> Option<&'a str> {
         match &self.ahead(words).token {
             Token::Name(name) => meant_of(name, of),
             _ => None,

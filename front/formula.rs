@@ -10,7 +10,7 @@ use crate::phrase;
 use crate::reader::{Lost, Named, Read, Reader};
 use crate::report::Place;
 use crate::words::Token;
-use std::collections::HashMap;
+use std::collections::BTreeMap;
 
 /// So many nodes a formula can have.
 const NODES: usize = 64;
@@ -34,7 +34,9 @@ pub struct Body {
     pub speakers: &'static [Speaker],
     nodes: Vec<Node>,
     names: Vec<Option<String>>,
-    parts: HashMap<String, Part>,
+    parts: BTreeMap<String, Part>,
+    /// The name of the part that is being read.
+    part: Option<String>,
     depth: usize,
     /// The word that gives the first node too many.
     over: Option<Place>,
@@ -63,7 +65,7 @@ impl Reader {
         self.form = messages::heading_form();
         self.need(":")?;
         let speakers = heading.unwrap_or(Heading::Allow(0)).speakers();
-        let mut body = Body { speakers, nodes: Vec::new(), names: Vec::new(), parts: HashMap::new(), depth: 0, over: None };
+        let mut body = Body { speakers, nodes: Vec::new(), names: Vec::new(), parts: BTreeMap::new(), part: None, depth: 0, over: None };
         while self.sees(0, "let") {
             self.part(&mut body)?;
         }
@@ -81,20 +83,22 @@ impl Reader {
     /// What a formula decides; nothing, with a fault, where it is a permission that is not there.
     fn heading(&mut self) -> Read<Option<Heading>> {
         self.form = messages::heading_form();
-        let first = self.source(self.word().place);
-        self.step();
-        match first.as_str() {
-            "open" => self.need("session").map(|_| Some(Heading::OpenSession)),
-            "make" => self.need("item").map(|_| Some(Heading::MakeItem)),
-            "change" if self.take("session") => Ok(Some(Heading::ChangeSession)),
-            "change" if self.take("item") => Ok(Some(Heading::ChangeItem)),
-            "change" => Err(self.misplaced("`session` or `item`")),
-            _ => {
-                let named = self.name("the name of a permission")?;
-                let names: Vec<String> = self.rules.permissions.iter().map(|p| p.name.clone()).collect();
-                Ok(self.declared("permission", &named, &names).map(Heading::Allow))
-            }
+        if self.take("open") {
+            return self.need("session").map(|_| Some(Heading::OpenSession));
         }
+        if self.take("make") {
+            return self.need("item").map(|_| Some(Heading::MakeItem));
+        }
+        if self.take("change") {
+            if self.take("session") {
+                return Ok(Some(Heading::ChangeSession));
+            }
+            return if self.take("item") { Ok(Some(Heading::ChangeItem)) } else { Err(self.misplaced("`session` or `item`")) };
+        }
+        self.need("allow")?;
+        let named = self.name("the name of a permission")?;
+        let names: Vec<String> = self.rules.permissions.iter().map(|p| p.name.clone()).collect();
+        Ok(self.declared("permission", &named, &names).map(Heading::Allow))
     }
 
     /// The number that a formula gets; none, with a fault, if it is given twice.
@@ -108,6 +112,7 @@ impl Reader {
         Some(self.formulas.len() - 1)
     }
 
+    /// Keeps a formula that is read, under its number.
     fn close(&mut self, number: Option<usize>, body: Body) {
         if let Some(place) = body.over {
             self.fault(place, messages::too_many_nodes(body.nodes.len()), messages::node_count());
@@ -127,7 +132,9 @@ impl Reader {
         let first = body.parts.get(&named.name).map(|part| part.place);
         self.is_new("a part", &named, first);
         self.need("=")?;
+        body.part = Some(named.name.clone());
         let node = self.either(body)?;
+        body.part = None;
         body.names[node].get_or_insert_with(|| named.name.clone());
         if first.is_none() {
             body.parts.insert(named.name, Part { node, place: named.place, used: false });
@@ -164,8 +171,7 @@ impl Reader {
         let node = self.undivided(body)?;
         body.depth -= 1;
         if self.sees_any(0, &COMPARATORS) {
-            let place = self.word().place;
-            return Err(self.lost(place, messages::compares_no_part(&self.source(place)), messages::two_sides()));
+            return Err(self.compares_no_value(messages::two_sides()));
         }
         Ok(node)
     }
@@ -219,25 +225,26 @@ impl Reader {
         }
     }
 
-    /// Goes on after a name that is no part, if more of the formula or a new declaration follows.
+    /// Goes on after a name that is no part, if more of the formula or a new declaration follows. What seems misplaced then is not said.
     fn no_part(&mut self, name: &str, body: &Body) -> Read<()> {
         let place = self.step();
         let (message, help) = (messages::no_part(&self.source(place)), self.instead_of_part(name, body));
-        if self.sees_any(0, &["and", "or", ")", "let"]) || self.begins() {
-            self.fault(place, message, help);
+        self.fault(place, message, help);
+        self.passed_over = true;
+        let inside_itself = body.part.as_deref() == Some(name);
+        if !inside_itself && (self.sees_any(0, &["and", "or", ")", "let"]) || self.begins()) {
             return Ok(());
         }
-        Err(self.lost(place, message, help))
+        Err(Lost)
     }
 
+    /// What may have been meant by a name that is no part: a word, a part, an attribute, a value.
     fn instead_of_part(&self, name: &str, body: &Body) -> String {
         const WORDS: [&str; 3] = ["true", "false", "not"];
-        let mut parts: Vec<&str> = body.parts.keys().map(String::as_str).collect();
-        parts.sort_unstable();
         if let Some(word) = WORDS.into_iter().find(|word| name.to_lowercase() == *word) {
             return meant(word);
         }
-        if let Some(part) = nearest(name, parts.into_iter()) {
+        if let Some(part) = nearest(name, body.parts.keys().map(String::as_str).take(NODES)) {
             return meant(&phrase::name(part));
         }
         for speaker in body.speakers {

@@ -1,6 +1,7 @@
 //! Reading a text: its declarations one after another, then what concerns the whole of it.
 
 use crate::command_messages::meant;
+use crate::holders::USERS;
 use crate::messages;
 use crate::model::{Class, Heading, Permission, Rules};
 use crate::names::{listed, nearest};
@@ -22,14 +23,14 @@ pub fn read(text: &str) -> (Option<Rules>, Vec<Report>) {
     if reader.reports.is_empty() {
         reader.nothing_missing();
     }
-    let mut reports = std::mem::take(&mut reader.reports);
-    if reports.is_empty() {
-        reports = warnings::of(&reader.rules, &reader.seen);
-        reports.sort_by_key(|report| report.place);
-        return (Some(reader.rules), reports);
-    }
-    reports.sort_by_key(|report| report.place);
-    (None, reports)
+    let rules = if reader.reports.is_empty() {
+        reader.reports = warnings::of(&reader.rules, &reader.seen);
+        Some(reader.rules)
+    } else {
+        None
+    };
+    reader.reports.sort_by_key(|report| report.place);
+    (rules, reader.reports)
 }
 
 impl Reader {
@@ -49,9 +50,11 @@ impl Reader {
         }
     }
 
-    /// An attribute or a holder. `atribute` is taken for a name only where no name follows it.
+    /// An attribute or a holder; also an attribute without the word `attribute`, or with another one like it.
     fn of_class(&mut self, class: Class) -> Read<()> {
-        if self.sees(1, "attribute") || self.sees_name(2) && self.meant_word(1, &["attribute"]).is_some() {
+        let omitted = self.sees(2, ":") && self.sees_any(3, &["one", "set"]) && self.sees(4, "of");
+        let misspelt = self.sees_name(2) && self.meant_word(1, &["attribute"]).is_some();
+        if self.sees(1, "attribute") || omitted || misspelt {
             self.attribute(class)
         } else {
             self.holder(class)
@@ -96,7 +99,7 @@ impl Reader {
     /// The number of a name among those declared so far; of an unknown one nothing, with a fault.
     pub fn declared(&mut self, what: &str, named: &Named, names: &[String]) -> Option<usize> {
         let number = names.iter().position(|name| *name == named.name);
-        if number.is_none() && !self.has_enough() && !self.unread.has(what, &named.name) {
+        if number.is_none() && !self.unread.has(what, &named.name) {
             let help = match (self.comes_later(&[what], &named.name), nearest(&named.name, names.iter().map(String::as_str))) {
                 (Some(line), _) => messages::comes_later(line),
                 (None, Some(name)) => meant(&phrase::name(name)),
@@ -121,7 +124,7 @@ impl Reader {
     fn nothing_missing(&mut self) {
         let end = self.word().place;
         if self.rules.users.is_empty() {
-            self.fault(end, messages::none("user"), messages::at_least_one("user", 16));
+            self.fault(end, messages::none("user"), messages::at_least_one("user", USERS));
         }
         if self.rules.permissions.is_empty() {
             self.fault(end, messages::none("permission"), messages::at_least_one("permission", PERMISSIONS));

@@ -9,6 +9,10 @@ use crate::reader::{Named, Read, Reader};
 use crate::report::Place;
 use crate::words::{Token, Word};
 
+pub const USERS: usize = 16;
+const SESSIONS: usize = 32;
+const ITEMS: usize = 32;
+
 /// Words that name a session or item only in quotes: after `item` they begin a declaration, now or in a later version.
 const QUOTED_ONLY: [&str; 6] = ["expect", "list", "order", "amounts", "firm", "section"];
 
@@ -24,7 +28,7 @@ impl Reader {
         let user = if class == Class::Session { self.user_of_session()? } else { 0 };
         let first = self.rules.holders(class).iter().find(|h| h.name == named.name && !h.name.is_empty()).map(|h| h.place);
         let new = self.is_new(a(class), &named, first);
-        let most = [16, 32, 32][class as usize];
+        let most = [USERS, SESSIONS, ITEMS][class as usize];
         let counted = new && self.counts(self.rules.holders(class).len(), most, class.plural(), &named);
         if counted {
             self.its_number(class, &named);
@@ -100,36 +104,35 @@ impl Reader {
         let attributes = self.rules.of(class);
         let lacking: Vec<&str> = attributes.iter().zip(codes).filter(|(_, code)| code.is_none()).map(|(a, _)| a.name.as_str()).collect();
         let message = match lacking[..] {
-            [] => String::new(),
+            [] => return,
             [one] => not_given(one),
             _ => messages::are_not_given(&ticked(lacking.into_iter())),
         };
-        if !message.is_empty() {
-            let help = needs(class.word(), &listed(attributes.iter().map(|a| a.name.as_str())));
-            self.fault(place, message, help);
-        }
+        self.fault(place, message, self.needed(class));
     }
 
-    /// Whether values follow.
+    fn needed(&self, class: Class) -> String {
+        needs(class.word(), &listed(self.rules.of(class).iter().map(|a| a.name.as_str())))
+    }
+
+    /// Whether values follow. A missing colon is passed over.
     fn colon(&mut self, class: Class) -> Read<bool> {
         if self.sees_name(0) && self.sees(1, "=") {
-            let place = self.word().place;
-            self.pass_over(place, messages::should_stand("`:`", &self.source(place)), self.form);
+            self.misplaced("`:`");
             return Ok(true);
         }
         if !self.take(":") {
             return if self.ends() { Ok(false) } else { Err(self.misplaced("`:` or a new declaration")) };
         }
         if self.rules.of(class).is_empty() && self.begins() {
-            return Err(self.misplaced_for("an attribute", messages::no_attributes(a(class))));
+            return Err(self.misplaced_for("an attribute", messages::no_colon(a(class))));
         }
         Ok(true)
     }
 
     /// `role = clerk`. Whether there is such an attribute.
     fn given(&mut self, class: Class, codes: &mut [Option<u8>]) -> Read<bool> {
-        let named = self.name("an attribute")?;
-        let number = self.attribute_number(class, &named);
+        let (named, number) = self.attribute_name(class)?;
         self.need("=")?;
         let code = match number.map(|n| self.rules.of(class)[n].clone()) {
             Some(attribute) if attribute.size > 0 => self.code(&attribute)?,
@@ -138,26 +141,32 @@ impl Reader {
         // The attribute has a place in `codes`: holders and their attributes are not declared while values are read.
         if let Some(n) = number {
             if codes[n].is_some() {
-                self.fault(named.place, given_twice(&named.shown()), messages::give_once());
+                self.fault(named.place, given_twice(&named.shown()), self.needed(class));
             }
             codes[n] = Some(code);
         }
         Ok(number.is_some())
     }
 
-    /// The number of an attribute; of an unknown one nothing, with a fault.
-    pub fn attribute_number(&mut self, class: Class, named: &Named) -> Option<usize> {
-        let number = self.rules.of(class).iter().position(|a| a.name == named.name);
-        if number.is_none() && !self.has_enough() && !self.unread.has("attribute", &named.name) {
-            let names: Vec<&str> = self.rules.of(class).iter().map(|a| a.name.as_str()).collect();
+    /// An attribute's name and number; of an unknown one no number, with a fault.
+    pub fn attribute_name(&mut self, class: Class) -> Read<(Named, Option<usize>)> {
+        let names: Vec<String> = self.rules.of(class).iter().map(|a| a.name.clone()).collect();
+        let shown = || names.iter().map(String::as_str);
+        let those = if names.is_empty() { messages::no_attributes(a(class)) } else { messages::attributes_of(a(class), &listed(shown())) };
+        let known = |token: &Token| matches!(token, Token::Name(name) if names.contains(name));
+        if !self.sees_name(0) && !known(&self.word().token) {
+            return Err(self.misplaced_for("an attribute", those));
+        }
+        let named = self.name("an attribute")?;
+        let number = names.iter().position(|name| *name == named.name);
+        if number.is_none() && !self.unread.has("attribute", &named.name) {
             let help = match self.comes_later(&[class.word(), "attribute"], &named.name) {
                 Some(line) => messages::comes_later(line),
-                None if names.is_empty() => messages::no_attributes(a(class)),
-                None => with_meant(messages::attributes_of(a(class), &listed(names.iter().copied())), &named.name, names.into_iter()),
+                None => with_meant(those, &named.name, shown()),
             };
             self.fault(named.place, messages::no_attribute(a(class), &named.shown()), help);
         }
-        number
+        Ok((named, number))
     }
 
     /// Whether more values follow. A missing comma is passed over.
@@ -166,8 +175,7 @@ impl Reader {
             return Ok(true);
         }
         if self.sees_name(0) && self.sees(1, "=") {
-            let place = self.word().place;
-            self.pass_over(place, messages::should_stand("`,`", &self.source(place)), self.form);
+            self.misplaced("`,`");
             return Ok(true);
         }
         if self.ends() {
@@ -181,16 +189,12 @@ impl Reader {
         let place = self.word().place;
         match (attribute.set, self.sees(0, "{")) {
             (false, false) => self.member(attribute),
-            (true, true) => self.set(attribute),
             (false, true) => {
                 self.fault(place, messages::holds_one(&attribute.name), messages::without_braces());
                 self.any_value()
             }
-            (true, false) => {
-                let number = self.member(attribute)?;
-                self.fault(place, messages::holds_set(&attribute.name), messages::instead(&format!("{{{}}}", self.source(place))));
-                Ok(number)
-            }
+            (true, true) => self.set(attribute),
+            (true, false) => self.bare_set(attribute),
         }
     }
 
@@ -201,29 +205,43 @@ impl Reader {
         while !self.take("}") {
             code |= 1u32 << self.member(attribute)?;
             if !self.sees(0, "}") {
-                self.comma("}")?;
+                self.comma()?;
             }
         }
         Ok(code as u8)
     }
 
+    /// A set without its opening brace: a fault. What follows a comma is a member, unless it is the next attribute.
+    fn bare_set(&mut self, attribute: &Attribute) -> Read<u8> {
+        let place = self.word().place;
+        self.member(attribute)?;
+        self.fault(place, messages::holds_set(&attribute.name), messages::braces());
+        while self.sees(0, ",") && !self.sees(2, "=") {
+            self.step();
+            self.member(attribute)?;
+        }
+        self.take("}");
+        Ok(0)
+    }
+
     /// A value by its name or number; 0, with a fault, where it is not in the list.
     fn member(&mut self, attribute: &Attribute) -> Read<u8> {
         let Word { token, place, first } = self.word().clone();
-        let (number, word) = match token {
-            Token::Number(number) => (usize::try_from(number).ok().filter(|n| *n < attribute.size), self.source(place)),
+        let (number, name) = match token {
+            Token::Number(number) => (usize::try_from(number).ok().filter(|n| *n < attribute.size), None),
             Token::Name(name) | Token::Quoted(name) if self.sees_name(0) || !first => {
-                (attribute.names.iter().position(|value| *value == name), name)
+                (attribute.names.iter().position(|value| *value == name), Some(name))
             }
             _ => return Err(self.misplaced("a value")),
         };
-        match number {
-            Some(_) if !self.sees_name(0) && !matches!(self.word().token, Token::Number(_)) => drop(self.name("a value")),
-            Some(_) => drop(self.step()),
-            None => {
-                self.step();
-                self.fault(place, not_in_list(&word, &attribute.name), in_list(attribute, &word));
-            }
+        if number.is_none() {
+            let word = name.unwrap_or_else(|| self.source(place));
+            self.fault(place, not_in_list(&word, &attribute.name), in_list(attribute, &word));
+            self.step();
+        } else if name.is_some() {
+            self.name("a value")?;
+        } else {
+            self.step();
         }
         Ok(number.unwrap_or(0) as u8)
     }
@@ -240,7 +258,7 @@ impl Reader {
                 break;
             }
             if !self.sees(0, "}") {
-                self.comma("}")?;
+                self.comma()?;
             }
         }
         Ok(0)

@@ -29,7 +29,7 @@ pub enum Failure {
     /// What is wrong with the question; `file` is the rules' object.
     Question { file: Json, report: Report },
     /// A number of the library, said of a whole file (line 0) or of places in a text.
-    Refused { name: String, text: String, number: u32, reports: Vec<Report> },
+    Refused { name: String, file: Json, text: String, number: u32, reports: Vec<Report> },
 }
 
 impl Failure {
@@ -84,7 +84,7 @@ fn refused_file(name: String, bytes: &[u8], number: u32) -> Failure {
         None
     };
     let report = Report { severity: Severity::Refused, place: Place::default(), message: with_number(numbers::words(number), number), help };
-    Failure::Refused { name, text: String::new(), number, reports: vec![report] }
+    Failure::Refused { file: described(&name, bytes), name, text: String::new(), number, reports: vec![report] }
 }
 
 fn with_number(words: &str, number: u32) -> String {
@@ -165,7 +165,7 @@ impl Input {
             let message = with_number(numbers::words(number), number);
             reports.push(Report { severity: Severity::Refused, place: Place::default(), message, help: None });
         }
-        Failure::Refused { name: self.name.clone(), text: self.text.clone().unwrap_or_default(), number, reports }
+        Failure::Refused { name: self.name.clone(), file: self.json(), text: self.text.clone().unwrap_or_default(), number, reports }
     }
 
     /// Whether the file with this starting session alone gets 9.
@@ -183,12 +183,12 @@ impl Input {
         Report { severity: Severity::Refused, place, message, help: None }
     }
 
-    /// Name, length and SHA-256 of the rule file.
     pub fn json(&self) -> Json {
-        Json::Object(vec![
-            ("name", Json::text(&self.name)),
-            ("bytes", Json::Number(self.bytes.len() as u64)),
-            ("sha256", Json::text(&sha256::hex(&self.bytes))),
-        ])
+        described(&self.name, &self.bytes)
     }
+}
+
+/// Name, length and SHA-256 of a rule file.
+fn described(name: &str, bytes: &[u8]) -> Json {
+    Json::Object(vec![("name", Json::text(name)), ("bytes", Json::Number(bytes.len() as u64)), ("sha256", Json::text(&sha256::hex(bytes)))])
 }

@@ -37,20 +37,14 @@ pub fn other_characters() -> &'static str {
 pub fn unclosed() -> &'static str {
     "this quote is not closed"
 }
-pub fn one_line() -> &'static str {
-    "a name in quotes ends on the line where it begins: `\"mark agreed\"`"
-}
 pub fn empty_name() -> &'static str {
     "there is no name between these quotes"
-}
-pub fn some_letter() -> &'static str {
-    "a name has at least one character"
 }
 pub fn unshown() -> &'static str {
     "this name has a character that cannot be shown"
 }
-pub fn shown_only() -> &'static str {
-    "a name in quotes has no tab, no control character, and none that turns the direction of writing"
+pub fn quotes() -> &'static str {
+    "a name in quotes has at least one character, none that cannot be shown, and ends on its line: `\"mark agreed\"`"
 }
 pub fn neither(word: &str) -> String {
     format!("`{word}` is neither a number nor a name")
@@ -68,7 +62,7 @@ pub fn in_quotes(word: &str) -> String {
     format!("as a name it stands in quotes: `\"{word}\"`")
 }
 
-// names
+// names, and what is missing
 pub fn already(what: &str, name: &str) -> String {
     format!("there is already {what} `{name}`")
 }
@@ -99,8 +93,6 @@ pub fn too_many(most: usize, what: &str) -> String {
 pub fn one_too_many() -> &'static str {
     "this is one too many"
 }
-
-// the whole text
 pub fn none(what: &str) -> String {
     format!("there is no {what}")
 }
@@ -133,9 +125,6 @@ pub fn list_sizes() -> &'static str {
 pub fn list_of_numbers() -> &'static str {
     "a list has names, as in `one of {low, high}`, or only the number of its values, as in `one of 2`"
 }
-pub fn empty_list() -> &'static str {
-    "a list has at least one value"
-}
 pub fn last_comma() -> &'static str {
     "leave the last comma out"
 }
@@ -161,13 +150,13 @@ pub fn attributes_of(holder: &str, names: &str) -> String {
     format!("{holder} has {names}")
 }
 pub fn no_attributes(holder: &str) -> String {
-    format!("{holder} has no attributes so far; without them there is no colon")
+    format!("{holder} has no attributes so far")
+}
+pub fn no_colon(holder: &str) -> String {
+    format!("{holder} has no attributes so far; leave the colon out")
 }
 pub fn are_not_given(names: &str) -> String {
     format!("{names} are not given")
-}
-pub fn give_once() -> &'static str {
-    "give every attribute once"
 }
 pub fn holds_one(attribute: &str) -> String {
     format!("`{attribute}` holds one value, not a set")
@@ -179,7 +168,7 @@ pub fn holds_set(attribute: &str) -> String {
     format!("`{attribute}` holds a set")
 }
 
-// formulas
+// formulas and expectations
 pub fn heading_form() -> &'static str {
     "a formula begins with `open session:`, `change session:`, `make item:`, `change item:` or `allow PERMISSION:`"
 }
@@ -201,7 +190,7 @@ pub fn too_deep() -> &'static str {
 pub fn less_deep() -> &'static str {
     "leave out parentheses, or name a part with `let`"
 }
-pub fn compares_no_part(operator: &str) -> String {
+pub fn compares_no_value(operator: &str) -> String {
     format!("`{operator}` compares two values, and what stands before it is no value")
 }
 pub fn two_sides() -> &'static str {
@@ -258,9 +247,6 @@ pub fn side_form() -> &'static str {
 pub fn constant(number: &str) -> String {
     format!("{number} is above 15, the greatest constant")
 }
-pub fn constants() -> &'static str {
-    "values are numbered from 0 to 15 at most"
-}
 pub fn no_list(name: &str) -> String {
     format!("`{name}` is in no list: there is no attribute on the other side")
 }
@@ -276,8 +262,6 @@ pub fn is_one(side: &str, operator: &str) -> String {
 pub fn is_part(name: &str) -> String {
     format!("`{name}` is a part, which is true or false and not compared")
 }
-
-// expectations
 pub fn expect_form() -> &'static str {
     "write `expect WHO never PERMISSION` or `expect WHO can PERMISSION`, and `on ITEM` where one item is meant"
 }
@@ -304,14 +288,11 @@ pub fn write_alike(pairs: &str) -> String {
 pub fn unused_part(name: &str) -> String {
     format!("nothing uses the part `{name}`")
 }
-pub fn drop_part() -> &'static str {
-    "use it or leave it out: its nodes stand in the rule file"
+pub fn drop_it() -> &'static str {
+    "use it or leave it out"
 }
 pub fn unused_attribute(name: &str, class: &str) -> String {
     format!("no formula uses the attribute `{name}` of {class}s")
-}
-pub fn drop_attribute() -> &'static str {
-    "use it or leave it out: nothing depends on its values"
 }
 pub fn goes_by_order(operator: &str, order: &str) -> String {
     format!("`{operator}` goes by the order of the list: {order}")

@@ -58,7 +58,7 @@ fn bare_who(rules: &Rules, word: &Word) -> Result<Who, Report> {
         (Some(_), Some(_)) => Err(Report::error(word.place, messages::two_classes(name), Some(messages::class_word(name)))),
         (Some(user), None) => Ok(Who::User(user)),
         (None, Some(session)) => Ok(Who::Session(session)),
-        (None, None) => Err(unknown(rules, Class::User, name, word.place)),
+        (None, None) => Err(unknown_who(rules, name, word.place)),
     }
 }
 
@@ -106,6 +106,16 @@ fn place_of(rules: &Rules, class: Class, name: &str) -> Option<usize> {
 fn unknown(rules: &Rules, class: Class, name: &str, place: Place) -> Report {
     let meant = nearest(name, names(rules, class));
     Report::error(place, messages::no_such(class.word(), name), Some(with_meant(those(rules, class), meant)))
+}
+
+/// A name that neither a user nor a starting session has.
+fn unknown_who(rules: &Rules, name: &str, place: Place) -> Report {
+    if rules.sessions.is_empty() {
+        return unknown(rules, Class::User, name, place);
+    }
+    let meant = nearest(name, names(rules, Class::User).chain(names(rules, Class::Session)));
+    let help = format!("{}; {}", those(rules, Class::User), those(rules, Class::Session));
+    Report::error(place, messages::no_such("user or session", name), Some(with_meant(help, meant)))
 }
 
 /// Which holders of a class there are.

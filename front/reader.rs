@@ -1,4 +1,4 @@
-//! The words of a text one after another, and the faults that are found in them.
+//! The words of a text one after another, and what they give.
 
 use crate::faults::BEGINNINGS;
 use crate::messages;
@@ -14,6 +14,7 @@ pub struct Lost;
 
 pub type Read<T> = Result<T, Lost>;
 
+/// A name and its place.
 pub struct Named {
     pub name: String,
     pub place: Place,
@@ -26,11 +27,14 @@ impl Named {
     }
 }
 
+/// A text that is being read, and what it has given so far.
 pub struct Reader {
     lines: Vec<Vec<char>>,
     words: Vec<Word>,
+    /// The number of the present word.
     at: usize,
     pub reports: Vec<Report>,
+    /// Without formulas and expectations, which are put in when the whole text has been read.
     pub rules: Rules,
     pub formulas: Vec<Drafted>,
     pub expected: Vec<Expected>,
@@ -76,7 +80,6 @@ impl Reader {
         place
     }
 
-    /// The number of the present word.
     pub fn at(&self) -> usize {
         self.at
     }
@@ -84,6 +87,11 @@ impl Reader {
     /// The words from this number on, `End` last.
     pub fn words_from(&self, number: usize) -> &[Word] {
         &self.words[number..]
+    }
+
+    /// Passes all words up to `End`.
+    pub fn give_up(&mut self) {
+        self.at = self.words.len() - 1;
     }
 
     pub fn at_end(&self) -> bool {
@@ -121,6 +129,7 @@ impl Reader {
         seen
     }
 
+    /// Passes a word of the language or a mark; any other word is misplaced.
     pub fn need(&mut self, word: &str) -> Read<Place> {
         if !self.sees(0, word) {
             return Err(self.misplaced(&format!("`{word}`")));
@@ -128,13 +137,14 @@ impl Reader {
         Ok(self.step())
     }
 
-    /// A name. A word of the language is taken for one where no declaration begins with it, with a fault.
+    /// A name. A word of the language that does not begin a line is taken for one, with a fault.
     pub fn name(&mut self, wanted: &str) -> Read<Named> {
         let Word { token, place, first } = self.word().clone();
         let name = match token {
             Token::Name(name) | Token::Quoted(name) if self.sees_name(0) => name,
             Token::Name(name) if !first => {
                 self.pass_over(place, messages::reserved(&name), messages::in_quotes(&name));
+                self.unread.add(&name);
                 name
             }
             _ => return Err(self.misplaced(wanted)),
@@ -169,7 +179,7 @@ impl Reader {
         }
     }
 
-    /// Whether the present word cannot belong to a declaration without a formula that may be complete.
+    /// Whether a declaration that may be complete, and is no formula, ends before the present word.
     pub fn ends(&self) -> bool {
         self.begins() || self.word().first
     }

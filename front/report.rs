@@ -60,7 +60,8 @@ pub fn is_control(c: char) -> bool {
     c.is_control() || matches!(c, '\u{200E}' | '\u{200F}' | '\u{2028}'..='\u{202E}' | '\u{2066}'..='\u{2069}')
 }
 
-/// The report of a place in a text: `NAME:LINE:COLUMN: error: MESSAGE`, the line, carets, what would be right. `word` is the severity's, in its colour.
+/// The report of a place in a text: `NAME:LINE:COLUMN: error: MESSAGE`, the line, carets, what would be right.
+/// `word` is the severity's, in its colour.
 pub fn in_text(name: &str, text: &str, report: &Report, word: &str) -> String {
     let Place { line, column, length } = report.place;
     let mut told = format!("{name}:{line}:{column}: {word} {}\n", report.message);

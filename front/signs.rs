@@ -6,16 +6,19 @@ use crate::reader::{touches, Reader};
 use crate::words::Token;
 
 impl Reader {
-    /// The present word and the marks and signs that follow it without a blank, three at most: `!=`, `&&`.
+    /// The present mark or character and those that follow it without a blank, three at most: `!=`, `&&`.
     pub fn signs(&self) -> String {
-        let mut signs = self.source(self.word().place);
-        for words in 1..3 {
+        let mut signs = String::new();
+        for words in 0..3 {
             let word = self.ahead(words);
-            let is_sign = matches!(word.token, Token::Other(_) | Token::Mark("=" | "<" | "<="));
-            if !is_sign || !touches(self.ahead(words - 1).place, word.place) {
+            if words > 0 && !touches(self.ahead(words - 1).place, word.place) {
                 break;
             }
-            signs += &self.source(word.place);
+            match word.token {
+                Token::Other(c) => signs.push(c),
+                Token::Mark(mark) => signs += mark,
+                _ => break,
+            }
         }
         signs
     }
@@ -58,11 +61,11 @@ pub fn instead_of(signs: &str) -> String {
 
 /// What is wrong with a word that is no good name, and what would be right.
 pub fn no_word(source: &str) -> (String, String) {
-    let (message, help) = match source {
-        "\"\"" => (messages::empty_name(), messages::some_letter()),
+    let message = match source {
+        "\"\"" => messages::empty_name(),
         _ if !source.starts_with('"') => return (messages::neither(source), messages::begins_with_letter(source)),
-        _ if source.len() > 1 && source.ends_with('"') => (messages::unshown(), messages::shown_only()),
-        _ => (messages::unclosed(), messages::one_line()),
+        _ if source.len() > 1 && source.ends_with('"') => messages::unshown(),
+        _ => messages::unclosed(),
     };
-    (message.to_string(), help.to_string())
+    (message.to_string(), messages::quotes().to_string())
 }

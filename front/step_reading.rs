@@ -147,7 +147,10 @@ impl Run<'_> {
 
     /// `opens NAME: VALUES`, `makes NAME: VALUES`.
     fn brings(&self, mut line: Line, kind: u64, subject: u64, class: Class) -> Result<(u64, Option<String>), Report> {
-        line.class_word();
+        let class_word = line.word();
+        if line.class_word().map_or(false, |named| named != class) {
+            return Err(wrong_name(class_word));
+        }
         let word = line.take();
         let name = match &word.token {
             Token::Name(name) | Token::Quoted(name) => name.clone(),
@@ -160,7 +163,10 @@ impl Run<'_> {
         let given = values(&mut line, attributes)?;
         let mut codes = Vec::new();
         for (attribute, code) in attributes.iter().zip(given) {
-            let missing = || Report::error(word.place, messages::not_given(&attribute.name), Some(messages::needs(class.word(), &listed_names(attributes))));
+            let missing = || {
+                let help = messages::needs(class.word(), &listed_names(attributes));
+                Report::error(word.place, messages::not_given(&attribute.name), Some(help))
+            };
             codes.push(code.ok_or_else(missing)?);
         }
         let (row, _) = ended(line, row(kind, subject, self.next(class), self.rules.pack(class, &codes)))?;

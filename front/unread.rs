@@ -8,6 +8,8 @@ pub struct Unread {
     names: HashSet<String>,
     /// The words of declarations whose name could not be read.
     nameless: HashSet<String>,
+    /// Whether a quote that is not closed hides a declaration.
+    hidden: bool,
     /// What there is too much of; it is said once.
     over: HashSet<&'static str>,
     /// Whether some user, session or item is not counted.
@@ -22,7 +24,7 @@ impl Unread {
 
     /// Whether a name may be declared by a declaration with this word.
     pub fn has(&self, word: &str, name: &str) -> bool {
-        self.names.contains(name) || self.nameless.contains(word)
+        self.hidden || self.names.contains(name) || self.nameless.contains(word)
     }
 
     /// Whether this is the first that is too much.
@@ -41,6 +43,7 @@ impl Unread {
         if named.and_then(name).is_none() {
             self.nameless.insert(kind.to_string());
         }
+        self.hidden |= words.iter().any(|word| word.token == Token::Unclosed);
         words.iter().filter_map(name).for_each(|name| self.add(name));
     }
 }

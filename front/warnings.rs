@@ -26,7 +26,7 @@ pub struct Compared {
 
 pub fn of(rules: &Rules, seen: &Seen) -> Vec<Report> {
     let mut reports: Vec<Report> = seen.compared.iter().filter_map(|compared| by_number(rules, compared)).collect();
-    reports.extend(seen.unused_parts.iter().map(|part| Report::warning(part.place, messages::unused_part(&part.name), Some(messages::drop_part().to_string()))));
+    reports.extend(seen.unused_parts.iter().map(|part| unused(part.place, messages::unused_part(&part.shown()))));
     reports.extend(unused_attributes(rules));
     reports.extend(orders(rules, &seen.compared));
     reports
@@ -55,6 +55,10 @@ fn sorted(attribute: &Attribute) -> Vec<&String> {
     names
 }
 
+fn unused(place: Place, message: String) -> Report {
+    Report::warning(place, message, Some(messages::drop_it().to_string()))
+}
+
 fn unused_attributes(rules: &Rules) -> Vec<Report> {
     let mut used: Vec<(usize, usize)> = Vec::new();
     for node in rules.formulas.iter().flat_map(|formula| &formula.nodes) {
@@ -66,8 +70,7 @@ fn unused_attributes(rules: &Rules) -> Vec<Report> {
     for class in CLASSES {
         for (number, attribute) in rules.of(class).iter().enumerate() {
             if !used.contains(&(class as usize, number)) {
-                let message = messages::unused_attribute(&attribute.name, class.word());
-                reports.push(Report::warning(attribute.place, message, Some(messages::drop_attribute().to_string())));
+                reports.push(unused(attribute.place, messages::unused_attribute(&phrase::name(&attribute.name), class.word())));
             }
         }
     }

@@ -29,14 +29,20 @@ fn is_name_part(letter: char) -> bool {
     letter.is_alphabetic() || letter.is_ascii_digit() || letter == '_'
 }
 
+/// Characters that no name has.
+fn is_hidden(letter: char) -> bool {
+    const TURNING: [(u32, u32); 3] = [(0x200E, 0x200F), (0x2028, 0x202E), (0x2066, 0x2069)];
+    letter.is_control() || TURNING.iter().any(|(first, last)| (*first..=*last).contains(&u32::from(letter)))
+}
+
 /// The name in front of the next double quote, and what follows that quote.
 fn quoted(text: &str, line: usize) -> Result<(&str, &str), Bad> {
     let (name, rest) = text.split_once('"').ok_or((line, "this name has no closing quote in its line".to_string()))?;
     if name.is_empty() {
         return Err((line, "there is no name between these quotes".to_string()));
     }
-    if name.chars().any(char::is_control) {
-        return Err((line, "a control character stands in this name".to_string()));
+    if name.chars().any(is_hidden) {
+        return Err((line, "a control character, or one that turns the direction of writing, stands in this name".to_string()));
     }
     Ok((name, rest))
 }

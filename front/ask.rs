@@ -25,7 +25,7 @@ pub fn run(input: &Input, question: Question, options: &Options) -> Result<Print
             out += &format!("\n{}", step_lines(told.steps(), 2));
         }
         out += &format!("\n{}", counted(&input.rules, question, &told));
-        out += &raw(question, &told, options);
+        out += &raw(question, &told, 0, options);
     }
     Ok(Printed { out, status, ..Printed::default() })
 }
@@ -41,6 +41,7 @@ pub fn run_many(input: &Input, questions: &[Question], options: &Options) -> Res
         }
         objects.push(Json::Object(members(&input.rules, *question, &told)));
         printed.out += &format!("{}  {}\n", verdict_word(&told, options.colour), question::words_of(&input.rules, *question));
+        printed.out += &raw(*question, &told, 2, options);
     }
     if options.json {
         let object = Json::Object(vec![("command", Json::text("ask")), ("file", input.json()), ("answers", Json::List(objects))]);
@@ -100,16 +101,18 @@ pub fn counted(rules: &Rules, question: Question, told: &Answer) -> String {
 }
 
 /// With `-v`, the question's bytes and the rows.
-pub fn raw(question: Question, told: &Answer, options: &Options) -> String {
+pub fn raw(question: Question, told: &Answer, indent: usize, options: &Options) -> String {
     if !options.verbose {
         return String::new();
     }
-    let mut out = format!("Question: {}\n", question::hex(question));
-    for step in told.steps() {
-        let [kind, actor, target, value] = library::parts(step.row);
-        out += &format!("Row: {kind} {actor} {target} {value}\n");
-    }
-    out
+    let rows = told.steps().iter().map(|step| row_line(step.row, indent)).collect::<String>();
+    format!("{}Question: {}\n{rows}", " ".repeat(indent), question::hex(question))
+}
+
+/// A row as `bin/rights` prints it.
+pub fn row_line(row: u64, indent: usize) -> String {
+    let [kind, actor, target, value] = library::parts(row);
+    format!("{}Row: {kind} {actor} {target} {value}\n", " ".repeat(indent))
 }
 
 /// What an object says of a question and its answer.

@@ -33,7 +33,7 @@ impl Reader {
         }
         let counted = new && self.counts(self.rules.of(class).len(), ATTRIBUTES, of_class(class), &named);
         if counted {
-            self.rules.attributes[class as usize].push(Attribute { name: named.name, set: false, size: 0, names: Vec::new(), place });
+            self.rules.attributes[class as usize].push(Attribute { place: named.place, name: named.name, set: false, size: 0, names: Vec::new() });
         }
         self.need(":")?;
         let set = self.kind()?;

@@ -43,10 +43,14 @@ pub fn run(input: &Input, options: &Options) -> Printed {
 fn words(input: &Input, all: &[Checked], options: &Options) -> String {
     let width = all.iter().map(|checked| checked.expectation.place.line.to_string().len()).max().unwrap_or(0);
     let shown = all.iter().filter(|checked| !options.quiet || !checked.met());
-    let mut out: String = shown.map(|checked| checked_words(input, checked, width, options.colour)).collect();
+    let mut out = String::new();
+    for checked in shown {
+        out += &checked_words(input, checked, width, options.colour);
+        out += &ask::raw(checked.expectation.question, &checked.told, width + 11, options);
+    }
     if !options.quiet {
         for note in input.of(Severity::Note) {
-            out += &format!("note: {}:{}:{}: {}\n", input.name, note.place.line, note.place.column, note.message);
+            out += &format!("note: {}:{}:{}: {}\n", failure::clean(&input.name), note.place.line, note.place.column, note.message);
         }
     }
     out + &summary(all)

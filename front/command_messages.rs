@@ -13,6 +13,10 @@ pub fn no_option(word: &str) -> String {
     format!("there is no option `{word}`")
 }
 
+pub fn option_of_others(command: &str, option: &str) -> String {
+    format!("`rules {command}` has no option `{option}`")
+}
+
 pub fn option_wants(option: &str) -> String {
     format!("`{option}` needs a word after it")
 }
@@ -133,6 +137,14 @@ pub fn class_word(name: &str) -> String {
     format!("write `user {name}` or `session {name}`")
 }
 
+pub fn is_a_word(name: &str) -> String {
+    format!("`{name}` is a word of questions")
+}
+
+pub fn item_word(name: &str) -> String {
+    format!("write `any item`, or `item {name}` for the one that has this name")
+}
+
 pub fn no_such(class: &str, name: &str) -> String {
     format!("there is no {class} `{name}`")
 }
@@ -191,8 +203,8 @@ pub fn sessions_do(verb: &str) -> String {
     format!("a user acts here, but `{verb}` is what a session does")
 }
 
-pub fn there_already(class: &str, name: &str) -> String {
-    format!("there is a {class} `{name}` already")
+pub fn there_already(class: Class, name: &str) -> String {
+    format!("there is {} `{name}` already", class.one())
 }
 
 pub fn no_attribute(name: &str) -> String {

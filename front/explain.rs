@@ -27,7 +27,7 @@ fn words(input: &Input, question: Question, told: &Answer, options: &Options) ->
     }
     let why = if told.never() { never_words(input, question) } else { steps_words(input, told) };
     let counted = ask::counted(&input.rules, question, told);
-    format!("{sentence}\n{why}\n{counted}{}", ask::raw(question, told, options))
+    format!("{sentence}\n{why}\n{counted}{}", ask::raw(question, told, 0, options))
 }
 
 /// What the permission's formula needs, each part asked alone.

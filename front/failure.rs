@@ -12,8 +12,15 @@ use crate::report::{self, Report, Severity};
 /// So many faults of a text are shown.
 const SHOWN: usize = 20;
 
+/// Words from outside as they are shown: a terminal obeys nothing in them.
+pub fn clean(words: &str) -> String {
+    words.chars().map(report::shown).collect()
+}
+
 /// A report in lines: at its place in the text, or of the whole file.
 pub fn lines(name: &str, text: &str, report: &Report, colour: bool) -> String {
+    let name = &clean(name);
+    let report = &Report { message: clean(&report.message), help: report.help.as_deref().map(clean), ..*report };
     let style = if report.severity == Severity::Warning { Style::Warning } else { Style::Error };
     let word = paint(colour, style, &format!("{}:", report.severity.word()));
     if report.place.line > 0 {
@@ -39,8 +46,8 @@ pub fn printed(failure: &Failure, command: &str, options: &Options) -> Printed {
 fn in_words(failure: &Failure, colour: bool) -> String {
     match failure {
         Failure::Said { message, help } => {
-            let help = help.as_ref().map_or(String::new(), |help| format!("      = {help}\n"));
-            format!("rules: {message}\n{help}")
+            let help = help.as_ref().map_or(String::new(), |help| format!("      = {}\n", clean(help)));
+            format!("rules: {}\n{help}", clean(message))
         }
         Failure::Question { report, .. } => lines("question", "", report, colour),
         Failure::Refused { name, text, reports, .. } => reports.iter().map(|report| lines(name, text, report, colour)).collect(),
@@ -64,7 +71,9 @@ fn keys(command: &str) -> &'static [&'static str] {
         "explain" => &["question", "verdict", "pairs", "values", "steps", "parts", "together"],
         "check" => &["expectations", "warnings", "notes", "met", "not_met"],
         "replay" => &["question", "steps", "refused", "fits"],
-        "list" => &["text"],
+        "assemble" => &["warnings"],
+        "list" | "example" | "help" => &["text"],
+        "version" => &["version", "library"],
         _ => &[],
     }
 }

@@ -1,12 +1,5 @@
 //! `rules help` and `rules version`.
 
-use crate::failure;
-use crate::input::Failure;
-use crate::command_messages as messages;
-use crate::names::nearest;
-use crate::options::Options;
-use crate::printed::Printed;
-
 pub const USAGE: &str = "\
 usage: rules COMMAND ...
 
@@ -105,22 +98,15 @@ Options: --json (one object on one line), --colour auto|always|never, --names TE
 ";
 
 /// The help for a command, or for all.
-pub fn run(command: Option<&str>) -> Printed {
+pub fn of(command: Option<&str>) -> Option<String> {
     let found = match command {
         None => Some(USAGE),
         Some(command) => COMMANDS.iter().find(|c| c.0 == command).map(|c| c.1),
     };
-    match found {
-        Some(help) => Printed { out: format!("{help}{OPTIONS}"), ..Printed::default() },
-        None => {
-            let command = command.unwrap_or("");
-            let meant = nearest(command, COMMANDS.iter().map(|c| c.0)).map(messages::meant);
-            failure::printed(&Failure::said(messages::no_command(command), meant), "help", &Options::default())
-        }
-    }
+    found.map(|help| format!("{help}{OPTIONS}"))
 }
 
 /// The version, and the stamp of the library that this program was linked with.
-pub fn version() -> String {
-    format!("rules 1.0\nlibrary: SHA-256 of librights_c.a {}\n", option_env!("RIGHTS_STAMP").unwrap_or("unknown"))
+pub fn version() -> [&'static str; 2] {
+    ["1.0", option_env!("RIGHTS_STAMP").unwrap_or("unknown")]
 }

@@ -27,7 +27,7 @@ impl Reader {
         };
         let user = if class == Class::Session { self.user_of_session()? } else { 0 };
         let first = self.rules.holders(class).iter().find(|h| h.name == named.name && !h.name.is_empty()).map(|h| h.place);
-        let new = self.is_new(a(class), &named, first);
+        let new = self.is_new(class.one(), &named, first);
         let most = [USERS, SESSIONS, ITEMS][class as usize];
         let counted = new && self.counts(self.rules.holders(class).len(), most, class.plural(), &named);
         if counted {
@@ -125,7 +125,7 @@ impl Reader {
             return if self.ends() { Ok(false) } else { Err(self.misplaced("`:` or a new declaration")) };
         }
         if self.rules.of(class).is_empty() && self.begins() {
-            return Err(self.misplaced_for("an attribute", messages::no_colon(a(class))));
+            return Err(self.misplaced_for("an attribute", messages::no_colon(class.one())));
         }
         Ok(true)
     }
@@ -152,7 +152,7 @@ impl Reader {
     pub fn attribute_name(&mut self, class: Class) -> Read<(Named, Option<usize>)> {
         let names: Vec<String> = self.rules.of(class).iter().map(|a| a.name.clone()).collect();
         let shown = || names.iter().map(String::as_str);
-        let those = if names.is_empty() { messages::no_attributes(a(class)) } else { messages::attributes_of(a(class), &listed(shown())) };
+        let those = if names.is_empty() { messages::no_attributes(class.one()) } else { messages::attributes_of(class.one(), &listed(shown())) };
         let known = |token: &Token| matches!(token, Token::Name(name) if names.contains(name));
         if !self.sees_name(0) && !known(&self.word().token) {
             return Err(self.misplaced_for("an attribute", those));
@@ -164,7 +164,7 @@ impl Reader {
                 Some(line) => messages::comes_later(line),
                 None => with_meant(those, &named.name, shown()),
             };
-            self.fault(named.place, messages::no_attribute(a(class), &named.shown()), help);
+            self.fault(named.place, messages::no_attribute(class.one(), &named.shown()), help);
         }
         Ok((named, number))
     }
@@ -263,10 +263,6 @@ impl Reader {
         }
         Ok(0)
     }
-}
-
-fn a(class: Class) -> &'static str {
-    ["a user", "a session", "an item"][class as usize]
 }
 
 /// What an attribute's list has instead of a word.

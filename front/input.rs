@@ -98,6 +98,9 @@ fn of_file(name: String, bytes: Vec<u8>, names: Option<&str>) -> Result<Input, F
     let mut input = Input { name, bytes, rules, text: None, reports: Vec::new() };
     if let Some(names) = names {
         let (name, text) = contents(names)?;
+        if library::read(&text).is_ok() {
+            return Err(Failure::said(messages::is_a_file(&name), None));
+        }
         let named = of_text(name, String::from_utf8_lossy(&text).into_owned())?;
         if named.bytes == input.bytes {
             input.rules = named.rules;
@@ -150,11 +153,6 @@ impl Input {
         Err(Failure::Faults { name: self.name, text: self.text.unwrap_or_default(), reports })
     }
 
-    /// Asks one question, so that a file that no question is answered of is refused.
-    pub fn answerable(&self) -> Result<(), Failure> {
-        never(&self.bytes, Question { who: Who::Anyone, permission: 0, item: None }).map(|_| ()).map_err(|number| self.refused(number))
-    }
-
     /// A number that the library gives to a question. 9 is said of each session that it is true of, found by asking with that session alone.
     pub fn refused(&self, number: u32) -> Failure {
         let mut reports = Vec::new();
@@ -171,7 +169,7 @@ impl Input {
     /// Whether the file with this starting session alone gets 9.
     fn cannot_be(&self, session: usize) -> bool {
         let alone = Rules { sessions: vec![self.rules.sessions[session].clone()], ..self.rules.clone() };
-        never(&bits::bytes(&alone), Question { who: Who::Anyone, permission: 0, item: None }) == Err(9)
+        never(&bits::bytes(&alone), Question::SOME) == Err(9)
     }
 
     fn nine(&self, number: usize) -> Report {

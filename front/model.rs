@@ -17,6 +17,10 @@ impl Class {
         ["user", "session", "item"][self as usize]
     }
 
+    pub fn one(self) -> &'static str {
+        ["a user", "a session", "an item"][self as usize]
+    }
+
     /// Those that rules have.
     pub fn plural(self) -> &'static str {
         ["users", "starting sessions", "starting items"][self as usize]
@@ -198,6 +202,11 @@ pub struct Question {
     pub who: Who,
     pub permission: usize,
     pub item: Option<usize>,
+}
+
+impl Question {
+    /// One that every rule file can be asked.
+    pub const SOME: Question = Question { who: Who::Anyone, permission: 0, item: None };
 }
 
 /// An `expect` line of a text.

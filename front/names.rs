@@ -1,10 +1,11 @@
 //! Finding names, and the name that was meant.
 
-/// The name nearest to a word, if it is near: at most a third of its letters differ, two at most. Words of more than 64 letters are near to none.
+/// The name nearest to a word, if it is near: at most a third of its letters differ, two at most. Words of 1, 2 or
+/// more than 64 letters are near to none.
 pub fn nearest<'a>(word: &str, names: impl Iterator<Item = &'a str>) -> Option<&'a str> {
     let letters = word.chars().count();
-    let within = (letters / 3).clamp(1, 2);
-    let alike = names.filter(|name| letters <= 64 && name.chars().count().abs_diff(letters) <= within);
+    let within = (letters / 3).min(2);
+    let alike = names.filter(|name| (3..=64).contains(&letters) && name.chars().count().abs_diff(letters) <= within);
     let near = alike.map(|name| (distance(word, name), name)).filter(|(far, name)| *far <= within && *far < name.chars().count().max(letters));
     near.min_by_key(|near| near.0).map(|near| near.1)
 }

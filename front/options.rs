@@ -18,13 +18,44 @@ pub struct Options {
     /// A question as three bytes in hex.
     pub question: Option<String>,
     pub help: bool,
+    /// The options that were given: the longest name of each, and as it was written.
+    given: Vec<(&'static str, String)>,
+}
+
+impl Options {
+    /// No options but that of an object, or not even that.
+    pub fn of_json(json: bool) -> Options {
+        Options { json, ..Options::default() }
+    }
+
+    /// The first option that was given and that a command does not have.
+    pub fn foreign(&self, command: &str) -> Option<&str> {
+        let has = |option: &str| match option {
+            "--names" => ["ask", "explain", "check", "replay", "list"].contains(&command),
+            "--strict" => ["ask", "explain", "check", "replay", "assemble"].contains(&command),
+            "--output" => ["assemble", "list"].contains(&command),
+            "--question" => ["ask", "explain", "replay"].contains(&command),
+            _ => true,
+        };
+        self.given.iter().find(|(option, _)| !has(option)).map(|(_, written)| written.as_str())
+    }
 }
 
 /// The words of the command line that are no options.
 pub type Arguments = Vec<String>;
 
-const FLAGS: [&str; 12] =
-    ["--json", "--colour", "--color", "--quiet", "--verbose", "--strict", "--names", "--output", "--question", "--help", "-q", "-v"];
+/// The options by their longest names, and how else they are written.
+const OPTIONS: [(&str, &str); 9] = [
+    ("--json", "--json"),
+    ("--colour", "--color"),
+    ("--quiet", "-q"),
+    ("--verbose", "-v"),
+    ("--strict", "--strict"),
+    ("--names", "--names"),
+    ("--output", "-o"),
+    ("--question", "--question"),
+    ("--help", "-h"),
+];
 
 /// Options and other words, or what is wrong with them. An option's value stands after it or after `=`; `--` ends the options.
 pub fn read(arguments: impl Iterator<Item = String>) -> Result<(Options, Arguments), (String, Option<String>)> {
@@ -45,18 +76,22 @@ pub fn read(arguments: impl Iterator<Item = String>) -> Result<(Options, Argumen
             Some((flag, value)) if flag.starts_with("--") => (flag.to_string(), Some(value.to_string())),
             _ => (argument, None),
         };
+        let option = match OPTIONS.iter().find(|(long, other)| flag == *long || flag == *other) {
+            Some((long, _)) => *long,
+            None => return Err((messages::no_option(&flag), nearest(&flag, OPTIONS.iter().map(|o| o.0)).map(messages::meant))),
+        };
+        options.given.push((option, flag.clone()));
         let mut value = || given.take().or_else(|| arguments.next()).ok_or_else(|| (messages::option_wants(&flag), None));
-        match flag.as_str() {
+        match option {
             "--json" => options.json = true,
-            "-q" | "--quiet" => options.quiet = true,
-            "-v" | "--verbose" => options.verbose = true,
+            "--quiet" => options.quiet = true,
+            "--verbose" => options.verbose = true,
             "--strict" => options.strict = true,
-            "-h" | "--help" => options.help = true,
+            "--help" => options.help = true,
             "--names" => options.names = Some(value()?),
-            "-o" | "--output" => options.output = Some(value()?),
+            "--output" => options.output = Some(value()?),
             "--question" => options.question = Some(value()?),
-            "--colour" | "--color" => choice = colour_choice(&value()?)?,
-            _ => return Err((messages::no_option(&flag), nearest(&flag, FLAGS.iter().copied()).map(messages::meant))),
+            _ => choice = colour_choice(&value()?)?,
         }
         if given.is_some() {
             return Err((messages::option_takes_none(&flag), None));

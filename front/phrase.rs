@@ -11,7 +11,7 @@ pub const RESERVED: [&str; 22] = [
 ];
 
 /// Words of a question or expectation; a user or item that is named like one of them gets its class word.
-const QUESTION_WORDS: [&str; 5] = ["anyone", "any", "on", "never", "can"];
+pub const QUESTION_WORDS: [&str; 6] = ["anyone", "any", "on", "never", "can", "expect"];
 
 /// A name as a text has it, quoted where it is not plain or is a word of a text.
 pub fn name(name: &str) -> String {

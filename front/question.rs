@@ -53,6 +53,9 @@ fn names_one(words: &[Word]) -> bool {
 }
 
 fn bare_who(rules: &Rules, word: &Word) -> Result<Who, Report> {
+    if let Some(known) = question_word(word) {
+        return Err(Report::error(word.place, messages::is_a_word(known), Some(messages::class_word(known))));
+    }
     let name = name(word).ok_or_else(|| Report::error(word.place, messages::no_who(&shown(word)), Some(messages::question_form())))?;
     match (place_of(rules, Class::User, name), place_of(rules, Class::Session, name)) {
         (Some(_), Some(_)) => Err(Report::error(word.place, messages::two_classes(name), Some(messages::class_word(name)))),
@@ -85,7 +88,20 @@ pub fn item<'w>(rules: &Rules, words: &'w [Word]) -> Result<(Option<usize>, &'w 
     match word(words) {
         Some("any") if word(&words[1..]) == Some("item") => Ok((None, &words[2..])),
         Some("item") if names_one(words) => Ok((Some(number(rules, Class::Item, &words[1])?), &words[2..])),
-        _ => Ok((Some(number(rules, Class::Item, &words[0])?), &words[1..])),
+        _ => {
+            if let Some(known) = question_word(&words[0]) {
+                return Err(Report::error(words[0].place, messages::is_a_word(known), Some(messages::item_word(known))));
+            }
+            Ok((Some(number(rules, Class::Item, &words[0])?), &words[1..]))
+        }
+    }
+}
+
+/// A word of questions: what has it as its name needs its class word, or quotes.
+fn question_word(word: &Word) -> Option<&str> {
+    match &word.token {
+        Token::Name(name) if phrase::QUESTION_WORDS.contains(&name.as_str()) => Some(name),
+        _ => None,
     }
 }
 

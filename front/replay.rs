@@ -1,7 +1,7 @@
 //! `rules replay`: carries out steps in words up to the first that is refused, and says why it is.
 
 use crate::answer::Step;
-use crate::ask::{question_json, row_json};
+use crate::ask::{self, question_json, row_json};
 use crate::failure;
 use crate::input::Input;
 use crate::json::Json;
@@ -66,7 +66,7 @@ pub fn run(input: &Input, steps_name: &str, steps_text: &str, question: Option<Q
 }
 
 fn replayed(input: &Input, text: &str, question: Option<Question>) -> Replayed {
-    let lines: Vec<Vec<Word>> = crate::lines(text).into_iter().filter(|line| !is_passed_over(line)).collect();
+    let lines: Vec<Vec<Word>> = crate::commands::lines(text).into_iter().filter(|line| !is_passed_over(line)).collect();
     let mut run = Run::start(&input.rules, &input.bytes, lines.len());
     let mut done: Vec<Step> = Vec::new();
     for line in &lines {
@@ -88,7 +88,8 @@ fn replayed(input: &Input, text: &str, question: Option<Question>) -> Replayed {
 fn is_passed_over(line: &[Word]) -> bool {
     let begins = |front: &[Token]| line.iter().map(|word| &word.token).take(front.len()).eq(front);
     let name = |word: &str| Token::Name(word.to_string());
-    begins(&[name("Can"), name("happen"), Token::Mark(",")]) || begins(&[name("Counted"), Token::Mark(":")])
+    let titled = |title: &&str| begins(&[name(title), Token::Mark(":")]);
+    begins(&[name("Can"), name("happen"), Token::Mark(",")]) || ["Counted", "Question", "Row"].iter().any(titled)
 }
 
 /// Whether the library says that the last of these rows is a grant that fits.
@@ -146,6 +147,13 @@ fn words(input: &Input, question: Option<Question>, replayed: &Replayed, options
         }
         End::All(fits) => out += &ended_words(input, question, *fits, replayed.done.is_empty(), options),
         End::Unread(_) => {}
+    }
+    if options.verbose {
+        let refused = match &replayed.end {
+            End::Refused(refusal) => Some(refusal.step.row),
+            _ => None,
+        };
+        out += &replayed.done.iter().map(|step| step.row).chain(refused).map(|row| ask::row_line(row, 0)).collect::<String>();
     }
     out
 }

@@ -157,7 +157,7 @@ impl Run<'_> {
             _ => return Err(wrong_name(word)),
         };
         if self.names(class).number(&name).is_some() {
-            return Err(Report::error(word.place, messages::there_already(class.word(), &name), None));
+            return Err(Report::error(word.place, messages::there_already(class, &name), None));
         }
         let attributes = self.rules.of(class);
         let given = values(&mut line, attributes)?;

@@ -2,7 +2,7 @@
 
 use crate::answer;
 use crate::json::Json;
-use crate::model::{Formula, Heading, Question, Rules};
+use crate::model::{Formula, Heading, Node, Question, Rules};
 use crate::parts::{self, Parts};
 use crate::printed::internal;
 
@@ -20,6 +20,12 @@ pub struct Below {
     parts: Vec<Asked>,
     /// Where each of several needed parts can happen alone: how many of the first were asked together, and whether they never can.
     together: Vec<(usize, bool)>,
+}
+
+/// Whether the question never can happen whatever the permission's formula says: no session or no item can be there.
+pub fn never_anyway(rules: &Rules, question: Question) -> bool {
+    let file = parts::with_nodes(rules, Heading::Allow(question.permission), vec![Node::True]);
+    asked(&file, question)
 }
 
 /// The parts of the permission's formula, of a question that the library answered with `Never`.
@@ -91,10 +97,15 @@ impl Asking<'_> {
     }
 
     fn answer(&self, file: &[u8]) -> bool {
-        match answer::never(file, self.question) {
-            Ok(never) => never,
-            Err(number) => internal(&format!("the library refuses a file with one part of a formula: {number}")),
-        }
+        asked(file, self.question)
+    }
+}
+
+/// Whether a question never can happen by a file that was made for it.
+fn asked(file: &[u8], question: Question) -> bool {
+    match answer::never(file, question) {
+        Ok(never) => never,
+        Err(number) => internal(&format!("the library refuses a file with one part of a formula: {number}")),
     }
 }
 

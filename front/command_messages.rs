@@ -95,6 +95,14 @@ pub fn bytes_on_a_terminal() -> String {
     "a rule file is not text: name a file with `-o FILE`, or redirect the output".to_string()
 }
 
+pub fn own_input(name: &str) -> String {
+    format!("{name} is what is read; name another file after `-o`")
+}
+
+pub fn no_questions() -> String {
+    "standard input has no question".to_string()
+}
+
 pub fn names_for_a_text(name: &str) -> String {
     format!("{name} is a text and has names of its own; `--names` is for a rule file")
 }
@@ -141,8 +149,12 @@ pub fn is_a_word(name: &str) -> String {
     format!("`{name}` is a word of questions")
 }
 
+pub fn bare_number(number: u64) -> String {
+    format!("{number} is a number, and needs its class word")
+}
+
 pub fn item_word(name: &str) -> String {
-    format!("write `any item`, or `item {name}` for the one that has this name")
+    format!("write `any item`, or `item {name}` for the one that is called so")
 }
 
 pub fn no_such(class: &str, name: &str) -> String {
@@ -176,7 +188,7 @@ pub fn permissions_are(names: &str) -> String {
 // steps
 
 pub fn step_forms() -> String {
-    "a step is USER opens, closes or changes a session, or SESSION makes, changes or uses an item; see `rules help replay`".to_string()
+    "a user opens, closes or changes a session; a session makes or changes an item, or uses a permission on it; see `rules help replay`".to_string()
 }
 
 pub fn step_wants(expected: &str, word: &str) -> String {

@@ -2,7 +2,7 @@
 
 use crate::command_messages as messages;
 use crate::help;
-use crate::input::{contents, load, Failure, Input};
+use crate::input::{contents, load, reason, Failure, Input};
 use crate::json::Json;
 use crate::model::Question;
 use crate::names::nearest;
@@ -94,6 +94,9 @@ fn version(options: &Options) -> Printed {
 
 /// What a command makes of rules, after the warnings of their text. Where warnings are asked to be faults there is no more than these.
 fn of_rules(command: &str, argument: Option<&str>, options: &Options, answer: impl Fn(&Input) -> Answered) -> Answered {
+    if argument.is_none() && colour::is_terminal(0) {
+        return Err(not_so(command));
+    }
     let argument = argument.unwrap_or("-");
     if argument == "-" && options.names.as_deref() == Some("-") {
         return Err(Failure::said(messages::both_from_input(), None));
@@ -101,6 +104,10 @@ fn of_rules(command: &str, argument: Option<&str>, options: &Options, answer: im
     let mut input = load(argument, options.names.as_deref())?;
     if options.strict {
         input = input.strict()?;
+    }
+    // without its names a file has no expectations, and nothing would be checked
+    if let (Some(lost), "check") = (input.of(Severity::Warning).find(|report| report.place.line == 0), command) {
+        return Err(Failure::said(lost.message.clone(), None));
     }
     let printed = answer(&input).unwrap_or_else(|failure| failure::printed(&failure, command, options));
     let in_object = options.json && ["check", "assemble"].contains(&command) && printed.status != NO_ANSWER;
@@ -160,6 +167,9 @@ fn questions(input: &Input) -> Result<Vec<Question>, Failure> {
     let reports: Vec<Report> = read.iter().filter_map(|read| read.as_ref().err().cloned()).collect();
     if !reports.is_empty() {
         return Err(Failure::Faults { name, text, reports });
+    }
+    if read.is_empty() {
+        return Err(Failure::said(messages::no_questions(), Some(messages::question_form())));
     }
     Ok(read.into_iter().flatten().collect())
 }
@@ -233,9 +243,8 @@ fn assemble(words: &[String], options: &Options) -> Answered {
         let mut printed = Printed::default();
         match &options.output {
             Some(path) => {
-                save(path, &input.bytes)?;
-                let sha = sha256::hex(&input.bytes);
-                printed.out = format!("{}: {} bytes, SHA-256 {} {}\n", failure::clean(path), input.bytes.len(), &sha[..8], &sha[8..16]);
+                save(path, &input.bytes, &input.name)?;
+                printed.out = format!("{}: {} bytes, SHA-256 {}\n", failure::clean(path), input.bytes.len(), sha256::hex(&input.bytes));
             }
             None if options.json || colour::is_terminal(1) => return Err(Failure::said(messages::bytes_on_a_terminal(), None)),
             None => printed.data = input.bytes.clone(),
@@ -261,7 +270,7 @@ fn list(words: &[String], options: &Options) -> Answered {
             internal("a listing assembles to other bytes");
         }
         if let Some(path) = &options.output {
-            save(path, text.as_bytes())?;
+            save(path, text.as_bytes(), &input.name)?;
         }
         let out = match (options.json, &options.output) {
             (true, _) => {
@@ -275,6 +284,11 @@ fn list(words: &[String], options: &Options) -> Answered {
     })
 }
 
-fn save(path: &str, bytes: &[u8]) -> Result<(), Failure> {
-    files::write_whole(path, bytes).map_err(|error| Failure::said(messages::unwritable(path, &error.to_string()), None))
+/// Writes a file, but not over the one that was read.
+fn save(path: &str, bytes: &[u8], read: &str) -> Result<(), Failure> {
+    let [written, read] = [path, read].map(std::fs::canonicalize);
+    if matches!((written, read), (Ok(written), Ok(read)) if written == read) {
+        return Err(Failure::said(messages::own_input(path), None));
+    }
+    files::write_whole(path, bytes).map_err(|error| Failure::said(messages::unwritable(path, &reason(&error)), None))
 }

@@ -176,6 +176,7 @@ impl Reader {
 
     fn no_operator(&mut self, left: &Term) -> Lost {
         let help = match self.meant_word(0, &["in", "subset", "proper"]) {
+            _ if self.sees(0, "not") => messages::not_before(&left.text),
             Some(word) => meant(word),
             None => messages::operators(&left.text),
         };

@@ -38,6 +38,9 @@ impl Reader {
         if self.resumes() && !self.is_permission("expect") {
             return Err(self.misplaced("the name of a permission"));
         }
+        if self.sees(0, "not") {
+            return Err(self.misplaced_for("the name of a permission", messages::never_form()));
+        }
         self.name("the name of a permission")?;
         let item = self.at();
         if self.take("on") {

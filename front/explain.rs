@@ -5,9 +5,10 @@ use crate::ask;
 use crate::asked_parts::{self, Below};
 use crate::input::{Failure, Input};
 use crate::json::Json;
-use crate::model::{Heading, Question};
+use crate::model::{Heading, Question, Who};
 use crate::options::Options;
 use crate::parts;
+use crate::phrase;
 use crate::printed::{internal, Printed, FOUND, GOOD};
 use crate::step_parts::{self, Decided, Part};
 use crate::steps::Run;
@@ -25,13 +26,22 @@ fn words(input: &Input, question: Question, told: &Answer, options: &Options) ->
     if options.quiet {
         return sentence;
     }
-    let why = if told.never() { never_words(input, question) } else { steps_words(input, told) };
+    let why = if told.never() { never_words(input, question, told) } else { steps_words(input, told) };
     let counted = ask::counted(&input.rules, question, told);
     format!("{sentence}\n{why}\n{counted}{}", ask::raw(question, told, 0, options))
 }
 
-/// What the permission's formula needs, each part asked alone.
-fn never_words(input: &Input, question: Question) -> String {
+/// What the permission's formula needs, each part asked alone; or that it is never asked.
+fn never_words(input: &Input, question: Question, told: &Answer) -> String {
+    if asked_parts::never_anyway(&input.rules, question) {
+        let formula = parts::formula_words(&input.rules, Heading::Allow(question.permission));
+        let lacking = match (told.values, question.who) {
+            (0, _) => "there can be no item".to_string(),
+            (_, Who::User(_)) => format!("no session of {} can be open", phrase::who(&input.rules, question.who)),
+            _ => "no session can be open".to_string(),
+        };
+        return format!("  whatever {formula} says: {lacking}\n");
+    }
     let below = asked_parts::of(&input.rules, &input.bytes, question);
     let formula = parts::formula_words(&input.rules, Heading::Allow(question.permission));
     let all = if below.all { "all" } else { "one" };
@@ -84,7 +94,7 @@ fn decided_json(input: &Input, decided: Option<Decided>) -> Vec<(&'static str, J
         None => (Json::Null, Json::Null, Vec::new()),
         Some(Decided { heading, parts }) => {
             let line = parts::line(&input.rules, *heading).map_or(Json::Null, |line| Json::Number(line as u64));
-            (Json::text(&crate::phrase::heading(&input.rules, *heading)), line, parts.iter().map(part_json).collect())
+            (Json::text(&phrase::heading(&input.rules, *heading)), line, parts.iter().map(part_json).collect())
         }
     };
     vec![("formula", formula), ("line", line), ("parts", Json::List(parts))]

@@ -27,9 +27,11 @@ usage: rules ask RULES WHO PERMISSION [on ITEM]
 
 Answers whether it can ever happen, after any run of work, with sessions opened without limit.
 
-  WHO    anna, user anna, user 1, session night_run, anyone
-  ITEM   line_4711, item line_4711, item 2, any item (that is also meant where no item is named)
+  WHO    anna, user anna, user 0, session night_run, anyone
+  ITEM   line_4711, item line_4711, item 1, any item (that is also meant where no item is named)
 
+A name with a blank is one argument: rules ask RULES 'Anna Berg' 'sign off'
+With --names TEXT a rule file gets the names of its text; with --strict a warning is a fault.
 Exit status: 0 never, 1 can happen, 2 no answer, 3 internal error.
 ",
     ),
@@ -48,7 +50,7 @@ Exit status: 0 never, 1 can happen, 2 no answer, 3 internal error.
 usage: rules check RULES...
 
 Shows all faults and warnings of texts, and asks the question of every line `expect anna never agree` or `expect carla can agree on line_4711`.
-With --strict a warning is a fault.
+With --strict a warning is a fault; with --names TEXT a rule file is checked by the expectations of its text.
 Exit status: 0 all are met, 1 one is not, 2 no answer, 3 internal error.
 ",
     ),
@@ -58,7 +60,7 @@ Exit status: 0 all are met, 1 one is not, 2 no answer, 3 internal error.
 usage: rules replay RULES STEPS [for WHO PERMISSION [on ITEM]]
 
 Carries out steps in words, one on each line of the file STEPS, up to the first that the rules refuse, and says why.
-With `for`, the last step must be what the question asks about.
+With `for`, the last step must be what the question asks about. Lines as `rules ask` prints them will do.
 
   USER opens NAME: VALUES         SESSION makes NAME: VALUES
   USER closes NAME                SESSION changes NAME: VALUES
@@ -93,8 +95,8 @@ Exit status: 0 written, 2 not written, 3 internal error.
 ];
 
 const OPTIONS: &str = "
-Options: --json (one object on one line), --colour auto|always|never, --names TEXT (names for a rule file), --strict (warnings are faults),
--q (less), -v (more: question bytes and rows), -- (no options follow).
+Options of all commands: --json (one object on one line), --colour auto|always|never, -q (less), -v (more: question bytes and rows), -h (help),
+-- (no options follow).
 ";
 
 /// The help for a command, or for all.

@@ -53,8 +53,14 @@ pub fn contents(argument: &str) -> Result<(String, Vec<u8>), Failure> {
     match read {
         Ok(_) if bytes.len() as u64 > LONGEST => Err(Failure::said(messages::too_long(name, LONGEST), None)),
         Ok(_) => Ok((name.to_string(), bytes)),
-        Err(error) => Err(Failure::said(messages::unreadable(name, &error.to_string()), None)),
+        Err(error) => Err(Failure::said(messages::unreadable(name, &reason(&error)), None)),
     }
+}
+
+/// Why a file cannot be read or written, without the system's number for it.
+pub fn reason(error: &std::io::Error) -> String {
+    let words = error.to_string();
+    words.split(" (os error").next().unwrap_or("").to_string()
 }
 
 /// Reads rules; a rule file gets the names of a text that assembles to the same bytes.

@@ -76,7 +76,7 @@ fn write(printed: &Printed) -> u8 {
     let written = out.write_all(&printed.data).and_then(|_| out.write_all(printed.out.as_bytes())).and_then(|_| out.flush());
     match written {
         Err(error) if error.kind() != std::io::ErrorKind::BrokenPipe => {
-            let _ = writeln!(std::io::stderr(), "rules: {}", command_messages::unwritable("standard output", &error.to_string()));
+            let _ = writeln!(std::io::stderr(), "rules: {}", command_messages::unwritable("standard output", &input::reason(&error)));
             NO_ANSWER
         }
         _ => printed.status,

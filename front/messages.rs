@@ -1,5 +1,4 @@
 //! What is wrong in a text, and what would be right. Each message is said in one place.
-
 // words
 pub fn should_stand(wanted: &str, found: &str) -> String {
     format!("{wanted} should stand here, not `{found}`")
@@ -61,7 +60,6 @@ pub fn quoted_only(word: &str, class: &str) -> String {
 pub fn in_quotes(word: &str) -> String {
     format!("as a name it stands in quotes: `\"{word}\"`")
 }
-
 // names, and what is missing
 pub fn already(what: &str, name: &str) -> String {
     format!("there is already {what} `{name}`")
@@ -105,7 +103,6 @@ pub fn no_formula(heading: &str) -> String {
 pub fn a_formula(heading: &str) -> String {
     format!("write `{heading}: false` if this is never allowed")
 }
-
 // attributes, holders and permissions
 pub fn permission_form() -> &'static str {
     "write `permission NAME`, a declaration for each"
@@ -167,7 +164,6 @@ pub fn without_braces() -> &'static str {
 pub fn holds_set(attribute: &str) -> String {
     format!("`{attribute}` holds a set")
 }
-
 // formulas and expectations
 pub fn heading_form() -> &'static str {
     "a formula begins with `open session:`, `change session:`, `make item:`, `change item:` or `allow PERMISSION:`"
@@ -238,6 +234,9 @@ pub fn new_ones() -> &'static str {
 pub fn operators(side: &str) -> String {
     format!("`{side}` is compared with something: write `=`, `<`, `<=`, `in`, `subset` or `proper subset` after it")
 }
+pub fn not_before(side: &str) -> String {
+    format!("`not` stands before a comparison: `not {side} ..`")
+}
 pub fn no_written_set() -> &'static str {
     "a formula has no sets in braces: write `clerk in session.roles` for each member"
 }
@@ -265,16 +264,18 @@ pub fn is_part(name: &str) -> String {
 pub fn expect_form() -> &'static str {
     "write `expect WHO never PERMISSION` or `expect WHO can PERMISSION`, and `on ITEM` where one item is meant"
 }
+pub fn never_form() -> &'static str {
+    "for what must not happen write `expect WHO never PERMISSION`"
+}
 pub fn who_form() -> &'static str {
-    "write `anna`, `user anna`, `user 1`, `session night_run`, `session 0` or `anyone`"
+    "write `anna`, `user anna`, `user 0`, `session night_run`, `session 0` or `anyone`"
 }
 pub fn item_asked_form() -> &'static str {
-    "write `line_4711`, `item line_4711`, `item 2` or `any item`"
+    "write `line_4711`, `item line_4711`, `item 1` or `any item`"
 }
 pub fn class_needed(class: &str, word: &str) -> String {
     format!("a name that is a word here needs its class word or quotes: `{class} {word}`")
 }
-
 // warnings and notes
 pub fn other_order() -> &'static str {
     "these lists have their names in another order, and are compared by number"
@@ -284,6 +285,9 @@ pub fn other_names() -> &'static str {
 }
 pub fn write_alike(pairs: &str) -> String {
     format!("{pairs}; write both lists alike")
+}
+pub fn no_such_value(number: u8) -> String {
+    format!("no value of this list has the number {number}, so this is never true")
 }
 pub fn unused_part(name: &str) -> String {
     format!("nothing uses the part `{name}`")

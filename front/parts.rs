@@ -122,7 +122,8 @@ pub fn with_first(rules: &Rules, heading: Heading, parts: &[usize]) -> Option<Ve
     Some(nodes).filter(|nodes| nodes.len() <= NODES).map(|nodes| with_nodes(rules, heading, nodes))
 }
 
-fn with_nodes(rules: &Rules, heading: Heading, nodes: Vec<Node>) -> Vec<u8> {
+/// The rule file with other nodes of a formula.
+pub fn with_nodes(rules: &Rules, heading: Heading, nodes: Vec<Node>) -> Vec<u8> {
     let mut rules = rules.clone();
     rules.formulas[heading.number()].nodes = nodes;
     bits::bytes(&rules)

@@ -2,7 +2,7 @@
 
 use crate::command_messages as messages;
 use crate::model::{Class, Question, Rules, Who};
-use crate::names::{listed, nearest};
+use crate::names::nearest;
 use crate::phrase;
 use crate::report::{Place, Report};
 use crate::words::{words, Token, Word};
@@ -29,7 +29,11 @@ fn of_argument(argument: &str) -> Token {
 /// A question in words, up to `End`: `WHO PERMISSION [on ITEM]`.
 pub fn read(rules: &Rules, words: &[Word]) -> Result<Question, Report> {
     let (who, rest) = who(rules, words)?;
-    let (permission, rest) = permission(rules, rest)?;
+    let advised = |report: Report| match question_word(&rest[0]) {
+        Some(_) => Report { help: Some(messages::question_form()), ..report },
+        None => report,
+    };
+    let (permission, rest) = permission(rules, rest).map_err(advised)?;
     let (item, rest) = item(rules, rest)?;
     match rest[0].token {
         Token::End => Ok(Question { who, permission, item }),
@@ -37,7 +41,7 @@ pub fn read(rules: &Rules, words: &[Word]) -> Result<Question, Report> {
     }
 }
 
-/// `anna`, `user anna`, `user 1`, `session night_run`, `anyone`, and the words that follow.
+/// `anna`, `user anna`, `user 0`, `session night_run`, `anyone`, and the words that follow.
 pub fn who<'w>(rules: &Rules, words: &'w [Word]) -> Result<(Who, &'w [Word]), Report> {
     match word(words) {
         Some("anyone") => Ok((Who::Anyone, &words[1..])),
@@ -54,7 +58,9 @@ fn names_one(words: &[Word]) -> bool {
 
 fn bare_who(rules: &Rules, word: &Word) -> Result<Who, Report> {
     if let Some(known) = question_word(word) {
-        return Err(Report::error(word.place, messages::is_a_word(known), Some(messages::class_word(known))));
+        let is_name = [Class::User, Class::Session].iter().any(|class| place_of(rules, *class, known).is_some());
+        let help = if is_name { messages::class_word(known) } else { messages::question_form() };
+        return Err(Report::error(word.place, messages::is_a_word(known), Some(help)));
     }
     let name = name(word).ok_or_else(|| Report::error(word.place, messages::no_who(&shown(word)), Some(messages::question_form())))?;
     match (place_of(rules, Class::User, name), place_of(rules, Class::Session, name)) {
@@ -68,7 +74,7 @@ fn bare_who(rules: &Rules, word: &Word) -> Result<Who, Report> {
 /// A permission's name, and the words that follow.
 pub fn permission<'w>(rules: &Rules, words: &'w [Word]) -> Result<(usize, &'w [Word]), Report> {
     let names = || rules.permissions.iter().map(|p| p.name.as_str());
-    let help = |meant: Option<&str>| Some(with_meant(messages::permissions_are(&listed(names())), meant));
+    let help = |meant: Option<&str>| Some(with_meant(messages::permissions_are(&written(names())), meant));
     let name = match name(&words[0]) {
         Some(name) => name,
         None => return Err(Report::error(words[0].place, messages::no_permission_word(&shown(&words[0])), help(None))),
@@ -79,7 +85,7 @@ pub fn permission<'w>(rules: &Rules, words: &'w [Word]) -> Result<(usize, &'w [W
     }
 }
 
-/// `on line_4711`, `on item line_4711`, `on item 2`, `on any item`, or nothing, which is any item; and the words that follow.
+/// `on line_4711`, `on item line_4711`, `on item 1`, `on any item`, or nothing, which is any item; and the words that follow.
 pub fn item<'w>(rules: &Rules, words: &'w [Word]) -> Result<(Option<usize>, &'w [Word]), Report> {
     if word(words) != Some("on") {
         return Ok((None, words));
@@ -91,6 +97,9 @@ pub fn item<'w>(rules: &Rules, words: &'w [Word]) -> Result<(Option<usize>, &'w 
         _ => {
             if let Some(known) = question_word(&words[0]) {
                 return Err(Report::error(words[0].place, messages::is_a_word(known), Some(messages::item_word(known))));
+            }
+            if let Token::Number(number) = words[0].token {
+                return Err(Report::error(words[0].place, messages::bare_number(number), Some(messages::item_word(&number.to_string()))));
             }
             Ok((Some(number(rules, Class::Item, &words[0])?), &words[1..]))
         }
@@ -126,6 +135,9 @@ fn unknown(rules: &Rules, class: Class, name: &str, place: Place) -> Report {
 
 /// A name that neither a user nor a starting session has.
 fn unknown_who(rules: &Rules, name: &str, place: Place) -> Report {
+    if rules.permissions.iter().any(|permission| permission.name == name) {
+        return Report::error(place, messages::no_who(&format!("`{name}`, a permission")), Some(messages::question_form()));
+    }
     if rules.sessions.is_empty() {
         return unknown(rules, Class::User, name, place);
     }
@@ -139,7 +151,12 @@ fn those(rules: &Rules, class: Class) -> String {
     if rules.holders(class).is_empty() {
         return messages::none_of(class);
     }
-    messages::those_are(class, &listed(names(rules, class)))
+    messages::those_are(class, &written(names(rules, class)))
+}
+
+/// Names in a row, each as it is written.
+fn written<'a>(names: impl Iterator<Item = &'a str>) -> String {
+    names.map(phrase::name).collect::<Vec<_>>().join(", ")
 }
 
 fn names(rules: &Rules, class: Class) -> impl Iterator<Item = &str> {
@@ -149,7 +166,7 @@ fn names(rules: &Rules, class: Class) -> impl Iterator<Item = &str> {
 /// Help, with the name that was meant.
 pub fn with_meant(help: String, meant: Option<&str>) -> String {
     match meant {
-        Some(name) => messages::did_you_mean(&help, name),
+        Some(name) => messages::did_you_mean(&help, &phrase::name(name)),
         None => help,
     }
 }

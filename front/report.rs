@@ -46,6 +46,9 @@ impl Report {
     }
 }
 
+/// So many characters of a line are shown at most, around the place.
+const WIDEST: usize = 160;
+
 /// A character as it is shown: one that a terminal would obey, or that turns the direction of writing, is shown as `?`.
 pub fn shown(c: char) -> char {
     match c {
@@ -57,7 +60,7 @@ pub fn shown(c: char) -> char {
 
 /// Characters that are not shown but obeyed; no name has one.
 pub fn is_control(c: char) -> bool {
-    c.is_control() || matches!(c, '\u{200E}' | '\u{200F}' | '\u{2028}'..='\u{202E}' | '\u{2066}'..='\u{2069}')
+    c.is_control() || matches!(c, '\u{061C}' | '\u{200E}' | '\u{200F}' | '\u{2028}'..='\u{202E}' | '\u{2066}'..='\u{2069}')
 }
 
 /// The report of a place in a text: `NAME:LINE:COLUMN: error: MESSAGE`, the line, carets, what would be right.
@@ -68,9 +71,12 @@ pub fn in_text(name: &str, text: &str, report: &Report, word: &str) -> String {
     if report.severity == Severity::Note {
         return told;
     }
-    let source: String = text.lines().nth(line - 1).unwrap_or("").trim_start_matches('\u{FEFF}').chars().map(shown).collect();
-    told += &format!("{line:>5} | {}\n", source.trim_end());
-    told += &format!("      | {}{}\n", " ".repeat(column - 1), "^".repeat(length.max(1)));
+    let source = text.lines().nth(line - 1).unwrap_or("").trim_start_matches('\u{FEFF}');
+    let from = if source.chars().count() > WIDEST { (column - 1).saturating_sub(WIDEST / 2) } else { 0 };
+    let part: String = source.chars().skip(from).take(WIDEST).map(shown).collect();
+    let carets = length.clamp(1, (WIDEST + 1 + from).saturating_sub(column).max(1));
+    told += &format!("{line:>5} | {}\n", part.trim_end());
+    told += &format!("      | {}{}\n", " ".repeat(column - 1 - from), "^".repeat(carets));
     if let Some(help) = &report.help {
         told += &format!("      = {help}\n");
     }

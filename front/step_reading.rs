@@ -208,9 +208,10 @@ fn listed_names(attributes: &[Attribute]) -> String {
 /// `: NAME = VALUE, ..`, or nothing: the code of each attribute that is given.
 fn values(line: &mut Line, attributes: &[Attribute]) -> Result<Vec<Option<u8>>, Report> {
     let mut codes = vec![None; attributes.len()];
-    if !line.passes(":") {
+    if line.word().token == Token::End {
         return Ok(codes);
     }
+    line.expect(":")?;
     loop {
         let word = line.take();
         let name = match &word.token {

@@ -1,5 +1,6 @@
 //! Warnings and notes on a text without faults.
 
+use crate::command_messages::list_is;
 use crate::messages;
 use crate::model::{Attribute, Comparison, Node, Rules, Side, CLASSES};
 use crate::names::listed;
@@ -26,10 +27,24 @@ pub struct Compared {
 
 pub fn of(rules: &Rules, seen: &Seen) -> Vec<Report> {
     let mut reports: Vec<Report> = seen.compared.iter().filter_map(|compared| by_number(rules, compared)).collect();
+    reports.extend(seen.compared.iter().filter_map(|compared| beyond_list(rules, compared)));
     reports.extend(seen.unused_parts.iter().map(|part| unused(part.place, messages::unused_part(&part.shown()))));
     reports.extend(unused_attributes(rules));
     reports.extend(orders(rules, &seen.compared));
     reports
+}
+
+/// An attribute is compared with a number that its list does not have.
+fn beyond_list(rules: &Rules, compared: &Compared) -> Option<Report> {
+    let (attribute, number) = match compared.sides {
+        [side, Side::Constant(number)] | [Side::Constant(number), side] => (rules.attribute(side)?, number),
+        _ => return None,
+    };
+    let exact = matches!(compared.comparison, Comparison::Equal | Comparison::Member);
+    if !exact || usize::from(number) < attribute.size {
+        return None;
+    }
+    Some(Report::warning(compared.place, messages::no_such_value(number), Some(list_is(attribute))))
 }
 
 /// Two attributes are compared by number although their lists have other names for some number.

@@ -6,6 +6,8 @@ import tempfile
 
 import harness
 
+# of a longer line this many characters are shown, around the place
+WIDEST = 160
 PATH = "tests/front/faults.txt"
 
 
@@ -61,8 +63,10 @@ def expected(fault):
         if severity == "note":
             notes.append(f"note: {place}: {message}")
         else:
-            shown = text[at[line] - 1].replace("\t", " ").rstrip()
-            lines += [f"{place}: {severity}: {message}", f"{at[line]:>5} | {shown}", "      | " + " " * (column - 1) + "^" * length, *right]
+            whole = text[at[line] - 1].replace("\t", " ")
+            begin = max(0, column - 1 - WIDEST // 2) if len(whole) > WIDEST else 0
+            shown = whole[begin:begin + WIDEST].rstrip()
+            lines += [f"{place}: {severity}: {message}", f"{at[line]:>5} | {shown}", "      | " + " " * (column - 1 - begin) + "^" * length, *right]
     return lines + [f"{errors} error{'s' * (errors > 1)}"] * bool(errors), notes
 
 

@@ -31,7 +31,7 @@ fn is_name_part(letter: char) -> bool {
 
 /// Characters that no name has.
 fn is_hidden(letter: char) -> bool {
-    const TURNING: [(u32, u32); 3] = [(0x200E, 0x200F), (0x2028, 0x202E), (0x2066, 0x2069)];
+    const TURNING: [(u32, u32); 4] = [(0x061C, 0x061C), (0x200E, 0x200F), (0x2028, 0x202E), (0x2066, 0x2069)];
     letter.is_control() || TURNING.iter().any(|(first, last)| (*first..=*last).contains(&u32::from(letter)))
 }
 

@@ -17,6 +17,7 @@ mod faults;
 mod file;
 mod files;
 mod formula;
+mod formula_messages;
 mod grammar;
 mod help;
 mod holders;

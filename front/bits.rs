@@ -2,8 +2,8 @@
 
 use crate::model::{Attribute, Class, Formula, Node, Rules, Side, CLASSES};
 
-/// The holder number of a constant; those of speakers come before it.
-pub const CONSTANT: u8 = 5;
+/// The holder number of a constant; those of owners come before it.
+const CONSTANT: u8 = 5;
 
 /// The rule file of rules that are within its limits.
 pub fn bytes(rules: &Rules) -> Vec<u8> {
@@ -73,7 +73,7 @@ fn fields(node: Node) -> (u8, u8, u8) {
 /// A side as holder (3 bits) and attribute number or constant (5 bits).
 fn operand(side: Side) -> u8 {
     match side {
-        Side::Attribute(speaker, number) => (speaker as u8) << 5 | number as u8,
+        Side::Attribute(owner, number) => (owner as u8) << 5 | number as u8,
         Side::Constant(code) => CONSTANT << 5 | code,
     }
 }

@@ -37,14 +37,14 @@ pub fn paint(on: bool, style: Style, words: &str) -> String {
 }
 
 /// Whether to use colours: by itself only on a terminal that has them, and where `NO_COLOR` does not say otherwise.
-pub fn wanted(choice: Choice) -> bool {
+pub fn wanted(choice: Choice, descriptor: i32) -> bool {
     match choice {
         Choice::Always => true,
         Choice::Never => false,
         Choice::Auto => {
             let refused = var_os("NO_COLOR").map_or(false, |value| !value.is_empty());
             let dumb = var_os("TERM").map_or(false, |value| value == "dumb");
-            !refused && !dumb && is_terminal(1)
+            !refused && !dumb && is_terminal(descriptor)
         }
     }
 }

@@ -115,6 +115,14 @@ pub fn input_of_rights() -> String {
     "its first three bytes may be a question: this is input for bin/rights".to_string()
 }
 
+pub fn not_utf8_text(name: &str) -> String {
+    format!("{name} is not UTF-8 text")
+}
+
+pub fn bad_argument(word: &str) -> String {
+    format!("`{word}` is not UTF-8")
+}
+
 pub fn not_utf8() -> String {
     "if this is a text: it is not in UTF-8; save it as UTF-8".to_string()
 }
@@ -197,6 +205,14 @@ pub fn step_wants(expected: &str, word: &str) -> String {
 
 pub fn step_goes_on(word: &str) -> String {
     format!("the step should end before {word}")
+}
+
+pub fn open_remark() -> String {
+    "this parenthesis is not closed".to_string()
+}
+
+pub fn remarks() -> String {
+    "a remark stands in parentheses, and is passed over".to_string()
 }
 
 pub fn no_name(word: &str) -> String {

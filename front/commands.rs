@@ -2,7 +2,7 @@
 
 use crate::command_messages as messages;
 use crate::help;
-use crate::input::{contents, load, reason, Failure, Input};
+use crate::input::{contents, load, reason, text_of, Failure, Input};
 use crate::json::Json;
 use crate::model::Question;
 use crate::names::nearest;
@@ -106,8 +106,8 @@ fn of_rules(command: &str, argument: Option<&str>, options: &Options, answer: im
         input = input.strict()?;
     }
     // without its names a file has no expectations, and nothing would be checked
-    if let (Some(lost), "check") = (input.of(Severity::Warning).find(|report| report.place.line == 0), command) {
-        return Err(Failure::said(lost.message.clone(), None));
+    if input.names_lost && command == "check" {
+        input = input.strict()?;
     }
     let printed = answer(&input).unwrap_or_else(|failure| failure::printed(&failure, command, options));
     let in_object = options.json && ["check", "assemble"].contains(&command) && printed.status != NO_ANSWER;
@@ -118,6 +118,9 @@ fn of_rules(command: &str, argument: Option<&str>, options: &Options, answer: im
 fn ask_or_explain(command: &str, words: &[String], options: &Options) -> Answered {
     let asked = words.get(1..).unwrap_or(&[]);
     let many = asked == ["-"];
+    if many && options.question.is_some() {
+        return Err(Failure::said(messages::two_questions(), None));
+    }
     if many && command == "explain" {
         return Err(Failure::said(messages::one_question(), None));
     }
@@ -162,7 +165,7 @@ fn refused(input: &Input, question: &[u8]) -> Failure {
 /// The questions of standard input, one a line; empty lines and comments are passed over.
 fn questions(input: &Input) -> Result<Vec<Question>, Failure> {
     let (name, bytes) = contents("-")?;
-    let text = String::from_utf8_lossy(&bytes).into_owned();
+    let text = text_of(&name, bytes)?;
     let read: Vec<Result<Question, Report>> = lines(&text).iter().map(|line| question::read(&input.rules, line)).collect();
     let reports: Vec<Report> = read.iter().filter_map(|read| read.as_ref().err().cloned()).collect();
     if !reports.is_empty() {
@@ -231,7 +234,7 @@ fn replay_steps(words: &[String], options: &Options) -> Answered {
     of_rules("replay", words.first().map(String::as_str), options, |input| {
         let question = asked.map(|asked| question_of(input, asked, options)).transpose()?;
         let (name, bytes) = contents(steps)?;
-        Ok(replay::run(input, &name, &String::from_utf8_lossy(&bytes), question, options))
+        Ok(replay::run(input, &name, &text_of(&name, bytes)?, question, options))
     })
 }
 
@@ -243,7 +246,7 @@ fn assemble(words: &[String], options: &Options) -> Answered {
         let mut printed = Printed::default();
         match &options.output {
             Some(path) => {
-                save(path, &input.bytes, &input.name)?;
+                save(path, &input.bytes, input, options)?;
                 printed.out = format!("{}: {} bytes, SHA-256 {}\n", failure::clean(path), input.bytes.len(), sha256::hex(&input.bytes));
             }
             None if options.json || colour::is_terminal(1) => return Err(Failure::said(messages::bytes_on_a_terminal(), None)),
@@ -270,7 +273,7 @@ fn list(words: &[String], options: &Options) -> Answered {
             internal("a listing assembles to other bytes");
         }
         if let Some(path) = &options.output {
-            save(path, text.as_bytes(), &input.name)?;
+            save(path, text.as_bytes(), input, options)?;
         }
         let out = match (options.json, &options.output) {
             (true, _) => {
@@ -284,11 +287,13 @@ fn list(words: &[String], options: &Options) -> Answered {
     })
 }
 
-/// Writes a file, but not over the one that was read.
-fn save(path: &str, bytes: &[u8], read: &str) -> Result<(), Failure> {
-    let [written, read] = [path, read].map(std::fs::canonicalize);
-    if matches!((written, read), (Ok(written), Ok(read)) if written == read) {
-        return Err(Failure::said(messages::own_input(path), None));
+/// Writes a file, but not over one that was read.
+fn save(path: &str, bytes: &[u8], input: &Input, options: &Options) -> Result<(), Failure> {
+    let written = std::fs::canonicalize(path).ok();
+    for read in [input.name.as_str(), "/dev/stdin"].into_iter().chain(options.names.as_deref()) {
+        if written.is_some() && written == std::fs::canonicalize(read).ok() {
+            return Err(Failure::said(messages::own_input(path), None));
+        }
     }
     files::write_whole(path, bytes).map_err(|error| Failure::said(messages::unwritable(path, &reason(&error)), None))
 }

@@ -4,14 +4,14 @@ use crate::command_messages::{did_you_mean, meant, not_in_list};
 use crate::formula::Body;
 use crate::holders::in_list;
 use crate::messages;
-use crate::model::{Comparison, Node, Side, Speaker};
+use crate::model::{Comparison, Node, Side, Owner};
 use crate::names::ticked;
 use crate::phrase;
-use crate::reader::{through, Lost, Read, Reader};
+use crate::reader::{Lost, Read, Reader};
 use crate::report::Place;
 use crate::signs::operator_for;
 use crate::warnings::Compared;
-use crate::words::Token;
+use crate::words::{through, Token};
 
 /// The words and marks that a comparison's operator begins with.
 pub const COMPARATORS: [&str; 6] = ["=", "<", "<=", "in", "subset", "proper"];
@@ -75,13 +75,13 @@ impl Reader {
             return Err(self.lost(place, messages::late_part(), messages::parts_first()));
         }
         let (value, text) = match token {
-            Token::Number(_) if self.sees(1, ".") => return self.no_speaker(body),
+            Token::Number(_) if self.sees(1, ".") => return self.no_owner(body),
             Token::Number(number) if number <= GREATEST => (Value::Known(Side::Constant(number as u8)), number.to_string()),
             Token::Number(_) => {
                 self.fault(place, messages::constant(&self.source(place)), messages::side_form());
                 (Value::Unknown, String::new())
             }
-            Token::Name(_) | Token::Quoted(_) if self.sees_name(0) && self.sees(1, ".") => return self.no_speaker(body),
+            Token::Name(_) | Token::Quoted(_) if self.sees_name(0) && self.sees(1, ".") => return self.no_owner(body),
             Token::Name(name) | Token::Quoted(name) if self.sees_name(0) => {
                 let text = phrase::name(&name);
                 (Value::Name(name), text)
@@ -96,56 +96,56 @@ impl Reader {
     /// `new session.role`.
     fn attribute_side(&mut self, body: &Body) -> Read<Term> {
         let start = self.word().place;
-        let (speaker, last) = self.speaker()?;
-        if !body.speakers.contains(&speaker) {
-            self.fault(through(start, last), messages::not_here(speaker.words()), self.here(body));
+        let (owner, last) = self.owner()?;
+        if !body.owners.contains(&owner) {
+            self.fault(through(start, last), messages::not_here(owner.words()), self.here(body));
         }
         if !self.take(".") {
-            return Err(self.misplaced_for("`.`", messages::instead(&format!("{}.ATTRIBUTE", speaker.words()))));
+            return Err(self.misplaced_for("`.`", messages::instead(&format!("{}.ATTRIBUTE", owner.words()))));
         }
-        let (named, number) = self.attribute_name(speaker.class())?;
+        let (named, number) = self.attribute_name(owner.class())?;
         Ok(Term {
-            value: number.map_or(Value::Unknown, |number| Value::Known(Side::Attribute(speaker, number))),
+            value: number.map_or(Value::Unknown, |number| Value::Known(Side::Attribute(owner, number))),
             place: through(start, named.place),
-            text: format!("{}.{}", speaker.words(), named.shown()),
+            text: format!("{}.{}", owner.words(), named.shown()),
         })
     }
 
     /// Whose value is meant, and the place of its last word.
-    fn speaker(&mut self) -> Read<(Speaker, Place)> {
+    fn owner(&mut self) -> Read<(Owner, Place)> {
         let new = self.take("new");
-        let speakers = [
-            ("user", Speaker::User, None),
-            ("session", Speaker::Session, Some(Speaker::NewSession)),
-            ("item", Speaker::Item, Some(Speaker::NewItem)),
+        let owners = [
+            ("user", Owner::User, None),
+            ("session", Owner::Session, Some(Owner::NewSession)),
+            ("item", Owner::Item, Some(Owner::NewItem)),
         ];
-        for (word, as_is, proposed) in speakers {
-            let speaker = if new { proposed } else { Some(as_is) };
-            if let (true, Some(speaker)) = (self.sees(0, word), speaker) {
-                return Ok((speaker, self.step()));
+        for (word, as_is, proposed) in owners {
+            let owner = if new { proposed } else { Some(as_is) };
+            if let (true, Some(owner)) = (self.sees(0, word), owner) {
+                return Ok((owner, self.step()));
             }
         }
         Err(self.misplaced_for("`session` or `item`", messages::new_ones()))
     }
 
-    /// What stands before a point is no speaker; the attribute after it is passed over.
-    fn no_speaker(&mut self, body: &Body) -> Read<Term> {
+    /// What stands before a point is no owner; the attribute after it is passed over.
+    fn no_owner(&mut self, body: &Body) -> Read<Term> {
         let place = self.word().place;
-        let speakers: Vec<&str> = body.speakers.iter().map(|speaker| speaker.words()).collect();
-        let help = match self.meant_word(0, &speakers) {
+        let owners: Vec<&str> = body.owners.iter().map(|owner| owner.words()).collect();
+        let help = match self.meant_word(0, &owners) {
             Some(word) => did_you_mean(&self.here(body), word),
             None => self.here(body),
         };
-        self.fault(place, messages::no_speaker(&self.source(place)), help);
+        self.fault(place, messages::no_owner(&self.source(place)), help);
         self.step();
         self.need(".")?;
         let named = self.name("an attribute")?;
         Ok(Term { value: Value::Unknown, place: through(place, named.place), text: String::new() })
     }
 
-    /// Who may speak in this formula.
+    /// Whose values this formula may use.
     fn here(&self, body: &Body) -> String {
-        messages::here_stand(&ticked(body.speakers.iter().map(|speaker| speaker.words())))
+        messages::here_stand(&ticked(body.owners.iter().map(|owner| owner.words())))
     }
 
     fn operator(&mut self, left: &Term) -> Read<(Comparison, Place)> {

@@ -3,13 +3,11 @@
 use crate::command_messages::meant;
 use crate::messages;
 use crate::model::{Expectation, Question};
+use crate::phrase::QUESTION_WORDS;
 use crate::question;
 use crate::reader::{Read, Reader};
 use crate::report::{Place, Report};
 use crate::words::{Token, Word};
-
-/// Words of expectations: a user, session or item that is named like one of them needs its class word or quotes.
-const WORDS: [&str; 6] = ["expect", "never", "can", "on", "anyone", "any"];
 
 /// An expectation that is well formed, with the numbers of the words where its parts begin.
 pub struct Expected {
@@ -66,7 +64,7 @@ impl Reader {
             return self.name_or_number();
         }
         let wanted = "a user, a session or `anyone`";
-        if self.sees_any(0, &WORDS) && !self.sees(0, "anyone") {
+        if self.sees_any(0, &QUESTION_WORDS) && !self.sees(0, "anyone") {
             let named = self.sees_any(1, &["never", "can"]);
             let help = if named { self.class_needed("user") } else { messages::who_form().to_string() };
             return Err(self.misplaced_for(wanted, help));
@@ -85,7 +83,7 @@ impl Reader {
             self.step();
             return Ok(());
         }
-        if self.sees_any(0, &WORDS) {
+        if self.sees_any(0, &QUESTION_WORDS) {
             let help = self.class_needed("item");
             return Err(self.misplaced_for(wanted, help));
         }

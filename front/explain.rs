@@ -82,7 +82,8 @@ fn object(input: &Input, question: Question, told: &Answer) -> Json {
     let steps = told.steps().iter().zip(decided_steps(input, told));
     let step = |(step, decided): (_, Option<Decided>)| Json::Object([ask::step_json(step), decided_json(input, decided)].concat());
     members.push(("steps", Json::List(steps.map(step).collect())));
-    let below = if told.never() { asked_parts::of(&input.rules, &input.bytes, question) } else { Below::default() };
+    let asked = told.never() && !asked_parts::never_anyway(&input.rules, question);
+    let below = if asked { asked_parts::of(&input.rules, &input.bytes, question) } else { Below::default() };
     members.push(("parts", below.json()));
     members.push(("together", below.together_json()));
     Json::Object(members)

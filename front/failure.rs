@@ -33,12 +33,12 @@ pub fn lines(name: &str, text: &str, report: &Report, colour: bool) -> String {
 /// The warnings of a text.
 pub fn warnings(input: &Input, options: &Options) -> String {
     let text = input.text.as_deref().unwrap_or("");
-    input.of(Severity::Warning).map(|report| lines(&input.name, text, report, options.colour)).collect()
+    input.of(Severity::Warning).map(|report| lines(&input.name, text, report, options.error_colour)).collect()
 }
 
 /// What a command prints where there is no answer.
 pub fn printed(failure: &Failure, command: &str, options: &Options) -> Printed {
-    let err = if options.json { String::new() } else { in_words(failure, options.colour) };
+    let err = if options.json { String::new() } else { in_words(failure, options.error_colour) };
     let out = if options.json { format!("{}\n", object(failure, command)) } else { String::new() };
     Printed { out, err, status: NO_ANSWER, ..Printed::default() }
 }

@@ -120,6 +120,12 @@ impl Reader {
         self.lost(place, messages::no_declaration(&self.source(place)), help)
     }
 
+    /// A hidden character is passed over, with a fault.
+    pub fn hidden(&mut self, place: Place) {
+        let code = self.character(place).map_or(0, u32::from);
+        self.fault(place, messages::hidden(code), messages::nothing_hidden());
+    }
+
     /// If the present word means nothing wherever it stands: what is said of it, and what would be right.
     fn sign(&self) -> Option<(String, String)> {
         let word = self.word();

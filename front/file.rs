@@ -2,7 +2,7 @@
 
 use crate::bits::width;
 use crate::listing::listable;
-use crate::model::{Attribute, Class, Formula, Holder, Node, Permission, Rules, Side, CLASSES, COMPARISONS, SPEAKERS};
+use crate::model::{Attribute, Class, Formula, Holder, Node, Permission, Rules, Side, CLASSES, COMPARISONS, OWNERS};
 use crate::phrase::unnamed;
 use crate::report::Place;
 
@@ -62,10 +62,10 @@ fn node([operator, a, b]: [usize; 3]) -> Node {
     }
 }
 
-/// A side of a holder (3 bits) and an attribute number or constant (5 bits); the holder after all speakers is a constant.
+/// A side of a holder (3 bits) and an attribute number or constant (5 bits); the holder after all owners is a constant.
 fn side(operand: usize) -> Side {
     let low = operand & 0x1F;
-    SPEAKERS.get(operand >> 5).map_or(Side::Constant(low as u8), |speaker| Side::Attribute(*speaker, low))
+    OWNERS.get(operand >> 5).map_or(Side::Constant(low as u8), |owner| Side::Attribute(*owner, low))
 }
 
 /// The bits of a file, and how many are read.

@@ -4,7 +4,7 @@ use crate::command_messages::{given_twice, meant};
 use crate::comparison::COMPARATORS;
 use crate::faults::BEGINNINGS;
 use crate::messages;
-use crate::model::{Formula, Heading, Node, Speaker};
+use crate::model::{Formula, Heading, Node, Owner};
 use crate::names::nearest;
 use crate::phrase;
 use crate::reader::{Lost, Named, Read, Reader};
@@ -13,7 +13,7 @@ use crate::words::Token;
 use std::collections::BTreeMap;
 
 /// So many nodes a formula can have.
-const NODES: usize = 64;
+pub const NODES: usize = 64;
 /// So deep `not` and parentheses can stand inside each other.
 const DEEPEST: usize = 200;
 
@@ -31,7 +31,7 @@ struct Part {
 
 /// A formula as far as it is read.
 pub struct Body {
-    pub speakers: &'static [Speaker],
+    pub owners: &'static [Owner],
     nodes: Vec<Node>,
     names: Vec<Option<String>>,
     parts: BTreeMap<String, Part>,
@@ -64,8 +64,8 @@ impl Reader {
         let number = heading.and_then(|heading| self.draft(heading, place));
         self.form = messages::heading_form();
         self.need(":")?;
-        let speakers = heading.unwrap_or(Heading::Allow(0)).speakers();
-        let mut body = Body { speakers, nodes: Vec::new(), names: Vec::new(), parts: BTreeMap::new(), part: None, depth: 0, over: None };
+        let owners = heading.unwrap_or(Heading::Allow(0)).owners();
+        let mut body = Body { owners, nodes: Vec::new(), names: Vec::new(), parts: BTreeMap::new(), part: None, depth: 0, over: None };
         while self.sees(0, "let") {
             self.part(&mut body)?;
         }
@@ -247,9 +247,9 @@ impl Reader {
         if let Some(part) = nearest(name, body.parts.keys().map(String::as_str).take(NODES)) {
             return meant(&phrase::name(part));
         }
-        for speaker in body.speakers {
-            for attribute in self.rules.of(speaker.class()) {
-                let side = format!("{}.{}", speaker.words(), phrase::name(&attribute.name));
+        for owner in body.owners {
+            for attribute in self.rules.of(owner.class()) {
+                let side = format!("{}.{}", owner.words(), phrase::name(&attribute.name));
                 if attribute.name == name {
                     return messages::instead(&side);
                 }

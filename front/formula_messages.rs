@@ -72,15 +72,15 @@ pub fn name_part(name: &str) -> String {
     format!("a part is named before it is used: `let {name} = FORMULA`")
 }
 
-pub fn not_here(speaker: &str) -> String {
-    format!("`{speaker}` cannot be used in this formula")
+pub fn not_here(owner: &str) -> String {
+    format!("`{owner}` cannot be used in this formula")
 }
 
-pub fn here_stand(speakers: &str) -> String {
-    format!("here stand {speakers}")
+pub fn here_stand(owners: &str) -> String {
+    format!("here stand {owners}")
 }
 
-pub fn no_speaker(name: &str) -> String {
+pub fn no_owner(name: &str) -> String {
     format!("`{name}` has no attributes")
 }
 

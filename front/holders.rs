@@ -13,9 +13,6 @@ pub const USERS: usize = 16;
 const SESSIONS: usize = 32;
 const ITEMS: usize = 32;
 
-/// Words that name a session or item only in quotes: after `item` they begin a declaration, now or in a later version.
-const QUOTED_ONLY: [&str; 6] = ["expect", "list", "order", "amounts", "firm", "section"];
-
 impl Reader {
     /// The holder is there from its name on, so that a fault in its values causes no others.
     pub fn holder(&mut self, class: Class) -> Read<()> {
@@ -70,7 +67,7 @@ impl Reader {
         }
         let word = self.word().clone();
         if let Token::Name(name) = &word.token {
-            if QUOTED_ONLY.contains(&name.as_str()) {
+            if phrase::QUOTED_ONLY.contains(&name.as_str()) {
                 self.pass_over(word.place, messages::quoted_only(name, class.word()), messages::in_quotes(name));
             }
         }

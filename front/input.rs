@@ -18,6 +18,8 @@ pub struct Input {
     pub rules: Rules,
     pub text: Option<String>,
     pub reports: Vec<Report>,
+    /// Whether names were asked for that are not those of this file.
+    pub names_lost: bool,
 }
 
 /// Why there is no answer.
@@ -43,7 +45,11 @@ const LONGEST: u64 = 1 << 24;
 
 /// Reads the file of a name; `-` is standard input. The name is the one that messages have.
 pub fn contents(argument: &str) -> Result<(String, Vec<u8>), Failure> {
-    let name = if argument == "-" { "standard input" } else { argument };
+    let name = match argument {
+        "-" => "standard input",
+        "" => "\"\"",
+        name => name,
+    };
     let mut bytes = Vec::new();
     let read = if argument == "-" {
         std::io::stdin().take(LONGEST + 1).read_to_end(&mut bytes)
@@ -55,6 +61,11 @@ pub fn contents(argument: &str) -> Result<(String, Vec<u8>), Failure> {
         Ok(_) => Ok((name.to_string(), bytes)),
         Err(error) => Err(Failure::said(messages::unreadable(name, &reason(&error)), None)),
     }
+}
+
+/// The text that bytes are.
+pub fn text_of(name: &str, bytes: Vec<u8>) -> Result<String, Failure> {
+    String::from_utf8(bytes).map_err(|_| Failure::said(messages::not_utf8_text(name), None))
 }
 
 /// Why a file cannot be read or written, without the system's number for it.
@@ -101,21 +112,29 @@ fn with_number(words: &str, number: u32) -> String {
 fn of_file(name: String, bytes: Vec<u8>, names: Option<&str>) -> Result<Input, Failure> {
     let rules = file::rules(&bytes);
     checked(&rules, &bytes);
-    let mut input = Input { name, bytes, rules, text: None, reports: Vec::new() };
+    let mut input = Input { name, bytes, rules, text: None, reports: Vec::new(), names_lost: false };
     if let Some(names) = names {
         let (name, text) = contents(names)?;
         if library::read(&text).is_ok() {
             return Err(Failure::said(messages::is_a_file(&name), None));
         }
-        let named = of_text(name, String::from_utf8_lossy(&text).into_owned())?;
+        let named = of_text(name.clone(), text_of(&name, text)?)?;
         if named.bytes == input.bytes {
+            input.reports.extend(named.of(Severity::Warning).map(|report| elsewhere(&name, report)));
             input.rules = named.rules;
         } else {
-            let message = messages::names_of_others(&named.name, &input.name);
+            let message = messages::names_of_others(&name, &input.name);
             input.reports.push(Report::warning(Place::default(), message, None));
+            input.names_lost = true;
         }
     }
     Ok(input)
+}
+
+/// A report on another text than the one that is asked about.
+fn elsewhere(name: &str, report: &Report) -> Report {
+    let message = format!("{name}:{}:{}: {}", report.place.line, report.place.column, report.message);
+    Report { place: Place::default(), message, ..report.clone() }
 }
 
 /// The rules of a text. Its rule file must be one that the library reads and writes back the same.
@@ -127,7 +146,7 @@ fn of_text(name: String, text: String) -> Result<Input, Failure> {
     };
     let bytes = bits::bytes(&rules);
     checked(&rules, &bytes);
-    Ok(Input { name, bytes, rules, text: Some(text), reports })
+    Ok(Input { name, bytes, rules, text: Some(text), reports, names_lost: false })
 }
 
 /// Holds the rules to the bytes: the library reads them, writes them back the same, and they are the rules' own.

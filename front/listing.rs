@@ -3,9 +3,6 @@
 use crate::model::{Attribute, Class, Formula, Heading, Holder, Node, Rules, CLASSES};
 use crate::phrase;
 
-/// Words that begin a declaration and may follow `session` or `item`; such a one that is named like them stands in quotes.
-const BEGINNING: [&str; 6] = ["expect", "list", "order", "amounts", "firm", "section"];
-
 /// The whole text, a blank line between groups of declarations.
 pub fn text(rules: &Rules) -> String {
     let mut groups: Vec<String> = CLASSES.iter().map(|class| attributes(rules, *class)).collect();
@@ -48,7 +45,7 @@ fn holders(rules: &Rules, class: Class) -> String {
 /// What stands before the values: `user anna`, `session night_run of importer`, `item`.
 fn declared(rules: &Rules, class: Class, number: usize, holder: &Holder) -> String {
     let mut words = class.word().to_string();
-    if class != Class::User && BEGINNING.contains(&holder.name.as_str()) {
+    if class != Class::User && phrase::QUOTED_ONLY.contains(&holder.name.as_str()) {
         words += &format!(" \"{}\"", holder.name);
     } else if class == Class::User || holder.name != phrase::unnamed(class, number) {
         words += &format!(" {}", phrase::name(&holder.name));

@@ -52,22 +52,29 @@ mod words;
 
 use input::Failure;
 use options::Options;
-use printed::{Printed, INTERNAL, NO_ANSWER};
+use printed::{Printed, NO_ANSWER};
 use std::io::Write;
 
 fn main() {
-    std::panic::set_hook(Box::new(|panic| {
-        eprintln!("internal error: {panic}");
-        std::process::exit(i32::from(INTERNAL));
-    }));
-    let arguments: Vec<String> = std::env::args_os().skip(1).map(|argument| argument.to_string_lossy().into_owned()).collect();
-    let json = arguments.iter().any(|argument| argument == "--json");
-    let command = arguments.iter().find(|argument| !argument.starts_with('-')).cloned().unwrap_or_default();
-    let printed = match options::read(arguments.into_iter()) {
-        Ok((options, words)) => commands::run(&words, &options),
-        Err((message, help)) => failure::printed(&Failure::said(message, help), &command, &Options::of_json(json)),
+    std::panic::set_hook(Box::new(|panic| printed::internal(&panic.to_string())));
+    let arguments: Result<Vec<String>, _> = std::env::args_os().skip(1).map(|argument| argument.into_string()).collect();
+    let printed = match arguments {
+        Ok(arguments) => answered(arguments),
+        Err(other) => {
+            let message = command_messages::bad_argument(&other.to_string_lossy());
+            failure::printed(&Failure::said(message, None), "", &Options::default())
+        }
     };
     std::process::exit(i32::from(write(&printed)));
+}
+
+fn answered(arguments: Vec<String>) -> Printed {
+    let json = arguments.iter().any(|argument| argument == "--json");
+    let command = arguments.iter().find(|argument| !argument.starts_with('-')).cloned().unwrap_or_default();
+    match options::read(arguments.into_iter()) {
+        Ok((options, words)) => commands::run(&words, &options),
+        Err((message, help)) => failure::printed(&Failure::said(message, help), &command, &Options::of_json(json)),
+    }
 }
 
 /// Writes what a command prints, and gives the exit status. A reader that went away is no fault; output that cannot be written is no answer.

@@ -57,11 +57,19 @@ pub fn empty_name() -> &'static str {
 }
 
 pub fn unshown() -> &'static str {
-    "this name has a character that cannot be shown"
+    "this is no name: it is a number, too long, or has a character or a blank that is not seen"
+}
+
+pub fn hidden(code: u32) -> String {
+    format!("a hidden character stands here: U+{code:04X}")
+}
+
+pub fn nothing_hidden() -> &'static str {
+    "a text has no hidden characters but tabs and line ends (LF, or CR LF), not even in comments"
 }
 
 pub fn quotes() -> &'static str {
-    "a name in quotes has at least one character, none that cannot be shown, and ends on its line: `\"mark agreed\"`"
+    "a name in quotes has 1 to 64 characters, is no number, has blanks only one at a time between others, and ends on its line: `\"mark agreed\"`"
 }
 
 pub fn neither(word: &str) -> String {

@@ -97,9 +97,9 @@ impl Comparison {
     }
 }
 
-/// Whose value a formula speaks of; the number is the file's.
+/// Whose value a side of a comparison is; the number is the file's holder.
 #[derive(Clone, Copy, Debug, PartialEq, Eq)]
-pub enum Speaker {
+pub enum Owner {
     User,
     Session,
     NewSession,
@@ -107,9 +107,9 @@ pub enum Speaker {
     NewItem,
 }
 
-pub const SPEAKERS: [Speaker; 5] = [Speaker::User, Speaker::Session, Speaker::NewSession, Speaker::Item, Speaker::NewItem];
+pub const OWNERS: [Owner; 5] = [Owner::User, Owner::Session, Owner::NewSession, Owner::Item, Owner::NewItem];
 
-impl Speaker {
+impl Owner {
     pub fn words(self) -> &'static str {
         ["user", "session", "new session", "item", "new item"][self as usize]
     }
@@ -122,7 +122,7 @@ impl Speaker {
 /// A side of a comparison.
 #[derive(Clone, Copy, Debug, PartialEq, Eq)]
 pub enum Side {
-    Attribute(Speaker, usize),
+    Attribute(Owner, usize),
     Constant(u8),
 }
 
@@ -145,7 +145,7 @@ pub struct Formula {
     pub place: Place,
 }
 
-/// What a formula decides: `formulas[kind.number()]` of the rules.
+/// What a formula decides: `formulas[heading.number()]` of the rules.
 #[derive(Clone, Copy, Debug, PartialEq, Eq)]
 pub enum Heading {
     OpenSession,
@@ -177,13 +177,13 @@ impl Heading {
     }
 
     /// Whose values the formula may use.
-    pub fn speakers(self) -> &'static [Speaker] {
+    pub fn owners(self) -> &'static [Owner] {
         match self {
-            Heading::OpenSession => &[Speaker::User, Speaker::NewSession],
-            Heading::ChangeSession => &[Speaker::User, Speaker::Session, Speaker::NewSession],
-            Heading::MakeItem => &[Speaker::Session, Speaker::NewItem],
-            Heading::ChangeItem => &[Speaker::Session, Speaker::Item, Speaker::NewItem],
-            Heading::Allow(_) => &[Speaker::Session, Speaker::Item],
+            Heading::OpenSession => &[Owner::User, Owner::NewSession],
+            Heading::ChangeSession => &[Owner::User, Owner::Session, Owner::NewSession],
+            Heading::MakeItem => &[Owner::Session, Owner::NewItem],
+            Heading::ChangeItem => &[Owner::Session, Owner::Item, Owner::NewItem],
+            Heading::Allow(_) => &[Owner::Session, Owner::Item],
         }
     }
 }
@@ -244,7 +244,7 @@ impl Rules {
     /// The attribute that a side names.
     pub fn attribute(&self, side: Side) -> Option<&Attribute> {
         match side {
-            Side::Attribute(speaker, number) => Some(&self.of(speaker.class())[number]),
+            Side::Attribute(owner, number) => Some(&self.of(owner.class())[number]),
             Side::Constant(_) => None,
         }
     }

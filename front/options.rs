@@ -7,7 +7,10 @@ use crate::names::nearest;
 #[derive(Default)]
 pub struct Options {
     pub json: bool,
+    /// Whether standard output is coloured.
     pub colour: bool,
+    /// Whether standard error is.
+    pub error_colour: bool,
     pub quiet: bool,
     pub verbose: bool,
     pub strict: bool,
@@ -23,7 +26,7 @@ pub struct Options {
 }
 
 impl Options {
-    /// No options but that of an object, or not even that.
+    /// The options of a command line that cannot be read: at most `--json`.
     pub fn of_json(json: bool) -> Options {
         Options { json, ..Options::default() }
     }
@@ -89,7 +92,7 @@ pub fn read(arguments: impl Iterator<Item = String>) -> Result<(Options, Argumen
             "--strict" => options.strict = true,
             "--help" => options.help = true,
             "--names" => options.names = Some(value()?),
-            "--output" => options.output = Some(value()?),
+            "--output" => options.output = Some(value()?).filter(|path| path != "-"),
             "--question" => options.question = Some(value()?),
             _ => choice = colour_choice(&value()?)?,
         }
@@ -97,7 +100,8 @@ pub fn read(arguments: impl Iterator<Item = String>) -> Result<(Options, Argumen
             return Err((messages::option_takes_none(&flag), None));
         }
     }
-    options.colour = wanted(choice) && !options.json;
+    options.colour = wanted(choice, 1) && !options.json;
+    options.error_colour = wanted(choice, 2);
     Ok((options, rest))
 }
 

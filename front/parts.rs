@@ -1,12 +1,10 @@
 //! The parts that a formula needs, and rule files in which a part is the whole formula.
 
 use crate::bits;
+use crate::formula::NODES;
 use crate::model::{Formula, Heading, Node, Rules};
 use crate::phrase;
 use crate::printed::internal;
-
-/// So many nodes a formula has at most.
-const NODES: usize = 64;
 
 /// Parts of which all are needed, or one; each stands here once.
 pub struct Parts {

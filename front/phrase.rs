@@ -10,6 +10,9 @@ pub const RESERVED: [&str; 22] = [
     "in", "subset", "proper", "true", "false",
 ];
 
+/// Words that name a session or item only in quotes: after `item` they begin a declaration, now or in a later version.
+pub const QUOTED_ONLY: [&str; 6] = ["expect", "list", "order", "amounts", "firm", "section"];
+
 /// Words of a question or expectation; a user or item that is named like one of them gets its class word.
 pub const QUESTION_WORDS: [&str; 6] = ["anyone", "any", "on", "never", "can", "expect"];
 
@@ -66,7 +69,7 @@ pub fn heading(rules: &Rules, heading: Heading) -> String {
 /// A side of a comparison: `session.role`, `new item.state`; a constant by the list of the other side: `controller`, else its number.
 pub fn side(rules: &Rules, side: Side, other: Side) -> String {
     match side {
-        Side::Attribute(speaker, number) => format!("{}.{}", speaker.words(), name(&rules.of(speaker.class())[number].name)),
+        Side::Attribute(owner, number) => format!("{}.{}", owner.words(), name(&rules.of(owner.class())[number].name)),
         Side::Constant(code) => rules.attribute(other).map_or_else(|| code.to_string(), |a| of_list(a, code)),
     }
 }
@@ -122,7 +125,8 @@ pub fn who(rules: &Rules, who: Who) -> String {
         Who::Session(number) => format!("session {}", name(&rules.sessions[number].name)),
         Who::User(number) => {
             let user = &rules.users[number].name;
-            let shared = rules.sessions.iter().any(|s| s.name == *user);
+            // `someone` stands for anyone in an answer
+            let shared = user == "someone" || rules.sessions.iter().any(|s| s.name == *user);
             with_class("user", user, shared)
         }
     }

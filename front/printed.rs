@@ -1,5 +1,7 @@
 //! What a command prints, and its exit status.
 
+use std::io::Write;
+
 /// Nothing is wrong: `Never`, all expectations met, all steps done, written.
 pub const GOOD: u8 = 0;
 /// It can happen, an expectation is not met, a step was refused.
@@ -22,6 +24,7 @@ pub struct Printed {
 
 /// Ends the program: one of its own checks failed, so nothing that it would say can be relied on.
 pub fn internal(what: &str) -> ! {
-    eprintln!("internal error: {what}");
+    // whoever cannot be told gets the exit status
+    let _ = writeln!(std::io::stderr(), "internal error: {what}");
     std::process::exit(i32::from(INTERNAL))
 }

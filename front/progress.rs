@@ -1,6 +1,7 @@
 //! Work on two threads, and a line on a terminal that says how far it is.
 
 use crate::colour::is_terminal;
+use crate::printed::internal;
 use std::io::Write;
 use std::sync::atomic::{AtomicUsize, Ordering};
 use std::sync::mpsc::{channel, RecvTimeoutError};
@@ -46,7 +47,8 @@ pub fn in_order<T: Sync, R: Send>(command: &str, units: &str, all: &[T], work: i
         }
     });
     line.clear();
-    results.into_iter().flatten().collect()
+    let lost = || internal("a result of two threads is lost");
+    results.into_iter().map(|result| result.unwrap_or_else(lost)).collect()
 }
 
 struct Line<'a> {

@@ -17,8 +17,8 @@ pub fn of_arguments(arguments: &[String]) -> Vec<Word> {
 }
 
 fn of_argument(argument: &str) -> Token {
-    if let Ok(number) = argument.parse() {
-        return Token::Number(number);
+    if argument.chars().all(|c| c.is_ascii_digit()) {
+        return argument.parse().map_or(Token::BadName, Token::Number);
     }
     match argument.strip_prefix('"').and_then(|rest| rest.strip_suffix('"')) {
         Some(name) => Token::Quoted(name.to_string()),
@@ -194,6 +194,7 @@ pub fn shown(word: &Word) -> String {
         Token::Mark(mark) => mark.to_string(),
         Token::Other(c) => crate::report::shown(*c).to_string(),
         Token::Unclosed | Token::BadName => "\"".to_string(),
+        Token::Hidden => "?".to_string(),
         Token::End => return "the end".to_string(),
     };
     format!("`{word}`")

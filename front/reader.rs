@@ -48,9 +48,10 @@ pub struct Reader {
 
 impl Reader {
     pub fn new(text: &str) -> Reader {
-        Reader {
+        let (hidden, words): (Vec<Word>, Vec<Word>) = words(text).into_iter().partition(|word| word.token == Token::Hidden);
+        let mut reader = Reader {
             lines: text.strip_prefix('\u{FEFF}').unwrap_or(text).lines().map(|line| line.chars().collect()).collect(),
-            words: joined(words(text)),
+            words,
             at: 0,
             reports: Vec::new(),
             rules: Rules::default(),
@@ -60,7 +61,9 @@ impl Reader {
             unread: Unread::default(),
             form: "",
             passed_over: false,
-        }
+        };
+        hidden.iter().for_each(|word| reader.hidden(word.place));
+        reader
     }
 
     /// The present word. `End` is the last one and is never passed.
@@ -153,6 +156,11 @@ impl Reader {
         Ok(Named { name, place })
     }
 
+    /// The first character of a place.
+    pub fn character(&self, place: Place) -> Option<char> {
+        self.lines.get(place.line - 1)?.get(place.column - 1).copied()
+    }
+
     /// The characters of a place.
     pub fn source(&self, place: Place) -> String {
         let line = self.lines.get(place.line - 1).map_or(&[][..], |line| &line[..]);
@@ -183,32 +191,4 @@ impl Reader {
     pub fn ends(&self) -> bool {
         self.begins() || self.word().first
     }
-}
-
-/// Digits that letters follow without a blank are one word, and no good one.
-fn joined(words: Vec<Word>) -> Vec<Word> {
-    let mut found: Vec<Word> = Vec::new();
-    for word in words {
-        match (found.last_mut(), &word.token) {
-            (Some(last), Token::Name(_)) if matches!(last.token, Token::Number(_)) && touches(last.place, word.place) => {
-                last.token = Token::BadName;
-                last.place = through(last.place, word.place);
-            }
-            _ => found.push(word),
-        }
-    }
-    found
-}
-
-/// Whether nothing stands between two places.
-pub fn touches(left: Place, right: Place) -> bool {
-    left.line == right.line && left.column + left.length == right.column
-}
-
-/// From one place through another, or only the first where they are on different lines.
-pub fn through(from: Place, to: Place) -> Place {
-    if from.line != to.line {
-        return from;
-    }
-    Place { length: to.column + to.length - from.column, ..from }
 }

@@ -57,7 +57,7 @@ pub fn run(input: &Input, steps_name: &str, steps_text: &str, question: Option<Q
         End::All(Some(false)) | End::Refused(_) => FOUND,
         End::Unread(report) => {
             if !options.json {
-                printed.err = failure::lines(steps_name, steps_text, report, options.colour);
+                printed.err = failure::lines(steps_name, steps_text, report, options.error_colour);
             }
             NO_ANSWER
         }

@@ -49,19 +49,40 @@ impl Report {
 /// So many characters of a line are shown at most, around the place.
 const WIDEST: usize = 160;
 
-/// A character as it is shown: one that a terminal would obey, or that turns the direction of writing, is shown as `?`.
+/// A character as it is shown: `?` stands for a hidden one.
 pub fn shown(c: char) -> char {
     match c {
         '\t' => ' ',
-        _ if is_control(c) => '?',
+        _ if is_hidden(c) => '?',
         _ => c,
     }
 }
 
-/// Characters that are not shown but obeyed; no name has one.
-pub fn is_control(c: char) -> bool {
-    c.is_control() || matches!(c, '\u{061C}' | '\u{200E}' | '\u{200F}' | '\u{2028}'..='\u{202E}' | '\u{2066}'..='\u{2069}')
+/// Characters that are not shown: control characters, line and paragraph separators, and those that Unicode calls default ignorable, among them
+/// all that turn the direction of writing. A text has none but tabs and line ends.
+pub fn is_hidden(c: char) -> bool {
+    c.is_control() || HIDDEN.iter().any(|(first, last)| (*first..=*last).contains(&u32::from(c)))
 }
+
+const HIDDEN: [(u32, u32); 17] = [
+    (0xAD, 0xAD),
+    (0x34F, 0x34F),
+    (0x61C, 0x61C),
+    (0x115F, 0x1160),
+    (0x17B4, 0x17B5),
+    (0x180B, 0x180F),
+    (0x200B, 0x200F),
+    (0x2028, 0x202E),
+    (0x2060, 0x206F),
+    (0x3164, 0x3164),
+    (0xFE00, 0xFE0F),
+    (0xFEFF, 0xFEFF),
+    (0xFFA0, 0xFFA0),
+    (0xFFF0, 0xFFF8),
+    (0x1BCA0, 0x1BCA3),
+    (0x1D173, 0x1D17A),
+    (0xE0000, 0xE0FFF),
+];
 
 /// The report of a place in a text: `NAME:LINE:COLUMN: error: MESSAGE`, the line, carets, what would be right.
 /// `word` is the severity's, in its colour.

@@ -2,7 +2,8 @@
 
 use crate::messages;
 use crate::names::nearest;
-use crate::reader::{touches, Reader};
+use crate::reader::Reader;
+use crate::words::touches;
 use crate::words::Token;
 
 impl Reader {

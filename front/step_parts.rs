@@ -148,9 +148,9 @@ impl<'r> Step<'r> {
     fn side(&self, side: Side, other: Side) -> String {
         match side {
             Side::Constant(_) => phrase::side(self.rules(), side, other),
-            Side::Attribute(speaker, number) => match &self.said.codes[speaker as usize] {
-                Some(codes) => phrase::value(&self.rules().of(speaker.class())[number], codes[number]),
-                None => internal(&format!("a formula speaks of what its step has none of: {}", speaker.words())),
+            Side::Attribute(owner, number) => match &self.said.codes[owner as usize] {
+                Some(codes) => phrase::value(&self.rules().of(owner.class())[number], codes[number]),
+                None => internal(&format!("a formula uses a value that its step does not have: {}", owner.words())),
             },
         }
     }

@@ -18,19 +18,26 @@ struct Line<'w> {
 
 impl<'w> Line<'w> {
     /// A step without its number in front and without remarks in parentheses.
-    fn of(words: &'w [Word]) -> Line<'w> {
+    fn of(words: &'w [Word]) -> Result<Line<'w>, Report> {
         let mut depth = 0;
+        let mut opened = words[0].place;
         let mut kept: Vec<&Word> = Vec::new();
         for word in words {
             match word.token {
-                Token::Mark("(") => depth += 1,
+                Token::Mark("(") => {
+                    depth += 1;
+                    opened = word.place;
+                }
                 Token::Mark(")") if depth > 0 => depth -= 1,
                 _ if depth == 0 || word.token == Token::End => kept.push(word),
                 _ => {}
             }
         }
+        if depth > 0 {
+            return Err(Report::error(opened, messages::open_remark(), Some(messages::remarks())));
+        }
         let at = usize::from(matches!(kept[0].token, Token::Number(_)));
-        Line { words: kept, at }
+        Ok(Line { words: kept, at })
     }
 
     fn word(&self) -> &'w Word {
@@ -79,7 +86,7 @@ impl<'w> Line<'w> {
     }
 }
 
-const VERBS: [&str; 5] = ["opens", "closes", "changes", "makes", "uses"];
+pub const VERBS: [&str; 5] = ["opens", "closes", "changes", "makes", "uses"];
 
 fn wrong_name(word: &Word) -> Report {
     Report::error(word.place, messages::no_name(&shown(word)), Some(messages::step_forms()))
@@ -88,7 +95,7 @@ fn wrong_name(word: &Word) -> Report {
 impl Run<'_> {
     /// A step in words: its row, and the name that it gives to what it opens or makes.
     pub fn read(&self, words: &[Word]) -> Result<(u64, Option<String>), Report> {
-        let mut line = Line::of(words);
+        let mut line = Line::of(words)?;
         let (actor, subject) = self.subject(&mut line)?;
         let verb = line.take();
         let target = match (&verb.token, actor) {

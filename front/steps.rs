@@ -1,9 +1,10 @@
 //! A run by the library, with the names of its sessions and items; steps in words.
 
 use crate::library::{self, parts, Live};
-use crate::model::{Class, Heading, Rules, Speaker, SPEAKERS};
+use crate::model::{Class, Heading, Rules, Owner, OWNERS};
 use crate::names::free;
 use crate::phrase;
+use crate::step_reading::VERBS;
 use std::collections::HashMap;
 
 /// Names by number, and numbers by name.
@@ -39,10 +40,10 @@ pub struct Run<'a> {
     names: [Names; 3],
 }
 
-/// Which formula decides a step, and the values that it speaks of, by `Speaker`. Closing has no formula.
+/// Which formula decides a step, and the values that it uses, by `Owner`. Closing has no formula.
 pub struct Said {
     pub heading: Option<Heading>,
-    pub codes: [Option<Vec<u8>>; SPEAKERS.len()],
+    pub codes: [Option<Vec<u8>>; OWNERS.len()],
 }
 
 impl<'a> Run<'a> {
@@ -90,7 +91,7 @@ impl<'a> Run<'a> {
     }
 
     fn next_name(&self, class: Class) -> String {
-        free(format!("{}_{}", class.word(), self.next(class)), |name| self.names.iter().any(|names| names.number(name).is_some()))
+        free(phrase::unnamed(class, self.next(class) as usize), |name| self.names.iter().any(|names| names.number(name).is_some()))
     }
 
     /// User and codes of an open session, as its cell says (docs/CELLS.md).
@@ -109,9 +110,9 @@ impl<'a> Run<'a> {
         match self.names[class as usize].all.get(number as usize) {
             None => format!("{} {number}", class.word()),
             Some(name) if self.names.iter().filter(|names| names.number(name).is_some()).count() > 1 => {
-                format!("{} {}", class.word(), phrase::name(name))
+                format!("{} {}", class.word(), written(name))
             }
-            Some(name) => phrase::name(name),
+            Some(name) => written(name),
         }
     }
 
@@ -170,39 +171,47 @@ impl<'a> Run<'a> {
         with_values(self.name(class, number), &changes.join(", "))
     }
 
-    /// The formula that decides a row, and the values that it speaks of.
+    /// The formula that decides a row, and the values that it uses.
     pub fn said(&self, row: u64) -> Said {
         let [kind, actor, target, value] = parts(row);
-        let mut codes: [Option<Vec<u8>>; SPEAKERS.len()] = Default::default();
-        let mut says = |speaker: Speaker, of: Option<Vec<u8>>| codes[speaker as usize] = of;
+        let mut codes: [Option<Vec<u8>>; OWNERS.len()] = Default::default();
+        let mut says = |owner: Owner, of: Option<Vec<u8>>| codes[owner as usize] = of;
         let user = || self.rules.users.get(actor as usize).map(|user| user.codes.clone());
         let session = |number| self.session(number).map(|(_, codes)| codes);
         let heading = match kind {
             library::OPEN | library::CHANGE_SESSION => {
-                says(Speaker::User, user());
-                says(Speaker::NewSession, Some(self.rules.unpack(Class::Session, value)));
+                says(Owner::User, user());
+                says(Owner::NewSession, Some(self.rules.unpack(Class::Session, value)));
                 if kind == library::CHANGE_SESSION {
-                    says(Speaker::Session, session(target));
+                    says(Owner::Session, session(target));
                 }
                 Some(if kind == library::OPEN { Heading::OpenSession } else { Heading::ChangeSession })
             }
             library::MAKE | library::CHANGE_ITEM => {
-                says(Speaker::Session, session(actor));
-                says(Speaker::NewItem, Some(self.rules.unpack(Class::Item, value)));
+                says(Owner::Session, session(actor));
+                says(Owner::NewItem, Some(self.rules.unpack(Class::Item, value)));
                 if kind == library::CHANGE_ITEM {
-                    says(Speaker::Item, self.item(target));
+                    says(Owner::Item, self.item(target));
                 }
                 Some(if kind == library::MAKE { Heading::MakeItem } else { Heading::ChangeItem })
             }
             library::ACCESS => {
-                says(Speaker::Session, session(actor));
-                says(Speaker::Item, self.item(target));
+                says(Owner::Session, session(actor));
+                says(Owner::Item, self.item(target));
                 Some(Heading::Allow(value as usize))
             }
             _ => None,
         };
         Said { heading, codes }
     }
+}
+
+/// A name as a step has it: in quotes also where it is a verb, which a class word may not stand before.
+fn written(name: &str) -> String {
+    if VERBS.contains(&name) {
+        return format!("\"{name}\"");
+    }
+    phrase::name(name)
 }
 
 fn with_values(name: String, values: &str) -> String {

@@ -94,7 +94,7 @@ fn unused_attributes(rules: &Rules) -> Vec<Report> {
 
 fn class_and_number(side: &Side) -> Option<(usize, usize)> {
     match side {
-        Side::Attribute(speaker, number) => Some((speaker.class() as usize, *number)),
+        Side::Attribute(owner, number) => Some((owner.class() as usize, *number)),
         Side::Constant(_) => None,
     }
 }

@@ -108,11 +108,13 @@ def main():
         with open(os.path.join(folder, "long.rules.txt"), "wb") as file:
             file.truncate(1 << 25)
         long = harness.run(["check", "long.rules.txt"], folder=folder)
+        strange = []
         for arguments in STRANGE:
             found = harness.run(arguments, folder=folder)
+            strange.append([f"around.py, {arguments}", found.text()])
             right = found.status == 2 and "panicked" not in found.text() and "␛" not in found.text()
             expect(right, f"{arguments}: exit {found.status}, {found.text()[:200]}")
-    harness.seen([["around.py, bytes on a terminal", told.text()], ["around.py, a long file", long.text()]])
+    harness.seen([["around.py, bytes on a terminal", told.text()], ["around.py, a long file", long.text()], *strange])
     print("\n".join(wrong + [f"files, terminals and arguments: {len(wrong)} wrong"]))
     sys.exit(1 if wrong else 0)
 

@@ -18,7 +18,7 @@ ALLOWED = [(0, 2), (0, 1, 2), (1, 4), (1, 3, 4), (1, 3)]
 # these begin declarations, now or later: as names of sessions and items they stand in quotes
 BEGINNING = "expect list order amounts firm section".split()
 OTHERS = ["a", "b2", "_", "x_y", "Role", "ledger", "state", "p0", "level", "clerk"]
-STRANGE = ["müller", "größe", "счёт", "会計", "two words", "user", "let", "a-b", "1st", "it's", "a,b", "#5", "{x}", "of", "true", " ", "="]
+STRANGE = ["müller", "größe", "счёт", "会計", "two words", "user", "let", "a-b", "1st", "it's", "a,b", "#5", "{x}", "of", "true", "a b", "="]
 
 
 class Maker:

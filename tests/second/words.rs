@@ -26,13 +26,17 @@ const MARKS: [&str; 10] = ["<=", "<", "=", ":", ",", ".", "{", "}", "(", ")"];
 
 /// Letters may be of any alphabet, digits are 0 to 9.
 fn is_name_part(letter: char) -> bool {
-    letter.is_alphabetic() || letter.is_ascii_digit() || letter == '_'
+    letter.is_alphabetic() && !is_hidden(letter) || letter.is_ascii_digit() || letter == '_'
 }
 
-/// Characters that no name has.
+/// Characters that are not shown: control characters, U+2028, U+2029 and Unicode's Default_Ignorable_Code_Point.
 fn is_hidden(letter: char) -> bool {
-    const TURNING: [(u32, u32); 4] = [(0x061C, 0x061C), (0x200E, 0x200F), (0x2028, 0x202E), (0x2066, 0x2069)];
-    letter.is_control() || TURNING.iter().any(|(first, last)| (*first..=*last).contains(&u32::from(letter)))
+    const OTHERS: [(u32, u32); 17] = [
+        (0xAD, 0xAD), (0x34F, 0x34F), (0x61C, 0x61C), (0x115F, 0x1160), (0x17B4, 0x17B5), (0x180B, 0x180F), (0x200B, 0x200F), (0x2028, 0x202E),
+        (0x2060, 0x206F), (0x3164, 0x3164), (0xFE00, 0xFE0F), (0xFEFF, 0xFEFF), (0xFFA0, 0xFFA0), (0xFFF0, 0xFFF8), (0x1BCA0, 0x1BCA3),
+        (0x1D173, 0x1D17A), (0xE0000, 0xE0FFF),
+    ];
+    letter.is_control() || OTHERS.iter().any(|(first, last)| (*first..=*last).contains(&u32::from(letter)))
 }
 
 /// The name in front of the next double quote, and what follows that quote.
@@ -41,8 +45,14 @@ fn quoted(text: &str, line: usize) -> Result<(&str, &str), Bad> {
     if name.is_empty() {
         return Err((line, "there is no name between these quotes".to_string()));
     }
-    if name.chars().any(is_hidden) {
-        return Err((line, "a control character, or one that turns the direction of writing, stands in this name".to_string()));
+    if name.chars().any(|letter| is_hidden(letter) || letter.is_whitespace() && letter != ' ') {
+        return Err((line, "a character that is not shown stands in this name".to_string()));
+    }
+    if name.starts_with(' ') || name.ends_with(' ') || name.contains("  ") {
+        return Err((line, "a blank of this name is not seen".to_string()));
+    }
+    if name.chars().all(|letter| letter.is_ascii_digit()) || name.chars().count() > 64 {
+        return Err((line, "this name is a number, or longer than 64 characters".to_string()));
     }
     Ok((name, rest))
 }
@@ -60,6 +70,9 @@ fn name_or_number(run: &str, line: usize) -> Result<Word, Bad> {
 
 /// The words of one line, up to its comment.
 fn cut_line(line: usize, text: &str, words: &mut Vec<(usize, Word)>) -> Result<(), Bad> {
+    if text.chars().any(|letter| is_hidden(letter) && letter != '\t') {
+        return Err((line, "a character that is not shown stands in this line".to_string()));
+    }
     let mut rest = text.trim_start();
     while let Some(first) = rest.chars().next() {
         if first == '#' {

@@ -211,6 +211,12 @@ fn bad_names(checks: &mut Checks) {
         "session \"a\u{85}b\" of ben session of anna",
         "session \"a\rb\" of ben session of anna",
         "session \"a of ben session of anna",
+        "session \"a\u{200b}b\" of ben session of anna",
+        "session \" a\" of ben session of anna",
+        "session \"a  b\" of ben session of anna",
+        "session \"12\" of ben session of anna",
+        "session night\u{3164} of ben session of anna",
+        "session of ben session of anna # a\rb",
     ] {
         let found = assemble(&text(sessions, ITEMS, "")).map_err(|(line, _)| line);
         checks.same(&format!("{sessions:?}"), found, Err(1));

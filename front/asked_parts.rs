@@ -142,9 +142,8 @@ impl Below {
 
     /// How many of the first parts were asked together, and what came of it.
     pub fn together_json(&self) -> Json {
-        let asked = |(first, never): &(usize, bool)| {
-            Json::Object(vec![("first", Json::Number(*first as u64)), ("verdict", Json::text(verdict(*never)))])
-        };
+        let asked =
+            |(first, never): &(usize, bool)| Json::Object(vec![("first", Json::Number(*first as u64)), ("verdict", Json::text(verdict(*never)))]);
         Json::List(self.together.iter().map(asked).collect())
     }
 

@@ -4,7 +4,7 @@ use crate::command_messages::{did_you_mean, meant, not_in_list};
 use crate::formula::Body;
 use crate::holders::in_list;
 use crate::messages;
-use crate::model::{Comparison, Node, Side, Owner};
+use crate::model::{Comparison, Node, Owner, Side};
 use crate::names::ticked;
 use crate::phrase;
 use crate::reader::{Lost, Read, Reader};
@@ -114,11 +114,7 @@ impl Reader {
     /// Whose value is meant, and the place of its last word.
     fn owner(&mut self) -> Read<(Owner, Place)> {
         let new = self.take("new");
-        let owners = [
-            ("user", Owner::User, None),
-            ("session", Owner::Session, Some(Owner::NewSession)),
-            ("item", Owner::Item, Some(Owner::NewItem)),
-        ];
+        let owners = [("user", Owner::User, None), ("session", Owner::Session, Some(Owner::NewSession)), ("item", Owner::Item, Some(Owner::NewItem))];
         for (word, as_is, proposed) in owners {
             let owner = if new { proposed } else { Some(as_is) };
             if let (true, Some(owner)) = (self.sees(0, word), owner) {

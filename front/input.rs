@@ -1,9 +1,9 @@
 //! The rules that a command is given: a text or a rule file, read and checked.
 
 use crate::answer::never;
+use crate::command_messages as messages;
 use crate::json::Json;
 use crate::library;
-use crate::command_messages as messages;
 use crate::model::{Question, Rules, Who};
 use crate::phrase;
 use crate::printed::internal;

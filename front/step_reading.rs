@@ -1,8 +1,8 @@
 //! Reading a step in words: the inverse of `Run::words`.
 
+use crate::command_messages as messages;
 use crate::holders::in_list;
 use crate::library::{self, row};
-use crate::command_messages as messages;
 use crate::model::{Attribute, Class};
 use crate::names::{listed, nearest};
 use crate::question::{permission, shown, with_meant};

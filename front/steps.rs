@@ -1,7 +1,7 @@
 //! A run by the library, with the names of its sessions and items; steps in words.
 
 use crate::library::{self, parts, Live};
-use crate::model::{Class, Heading, Rules, Owner, OWNERS};
+use crate::model::{Class, Heading, Owner, Rules, OWNERS};
 use crate::names::free;
 use crate::phrase;
 use crate::step_reading::VERBS;

@@ -27,6 +27,13 @@ fn window(s: &[u8], k: usize) -> u64
     requires { ⌜ k < 2 ^ 62 ⌝ }
     ensures { λ r. ⌜ r ≡ numberAt (now (s .entry)) (8 * k) 32 ⌝ }
 {
+    if k + 3 < s.len() {
+        let a = s[k] as u64;
+        let b = s[k + 1] as u64;
+        let c = s[k + 2] as u64;
+        let d = s[k + 3] as u64;
+        return ((a * 256 + b) * 256 + c) * 256 + d;
+    }
     let a = byte_or_zero(s, k);
     let b = byte_or_zero(s, k + 1);
     let c = byte_or_zero(s, k + 2);

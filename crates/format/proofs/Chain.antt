@@ -135,7 +135,7 @@ res-bits s c w t e = res-taken t _ e (from-only c (λ q. taken s q w) (λ n q d.
 pub res-field : (w : ℕ) (u : ℕ → Bool) (n : ℕ) (s : List ℕ) (c : Cursor) (t : Taken) → 0 < n → t ≡ takenOf (from c (field w u n .read s))
     → resOf (t .at) (t .value) ≡ from c (field w u n .read s)
 res-field w u n s c t z e =
-    res-taken t _ e (from-only c (field w u n .read s) (λ m q d. refuses-field (λ k. 0 < k) w u n (omega arith) z .only s (c .pos) m q d))
+    res-taken t _ e (from-only c (field w u n .read s) (λ m q d. refuses-field (λ k. 0 < k) s w u n (c .pos) (omega arith) z .only m q d))
 
 -- only 0 is from 0 up to, not including, 1
 pub within-zero : (x : ℕ) → within 0 1 x ≡ eqb 0 x

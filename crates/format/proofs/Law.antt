@@ -11,7 +11,7 @@ use native.Mathlib.Nat.{mod-eq-of-lt}
 use native.Mathlib.Omega.{arith}
 use borrow.Author.Tests.{ltb-true, ltb-false, eqb-true, lt-ltb}
 use lib.Dec.{ltb, eqb}
-use lib.ListN.{length}
+use lib.ListN.{length, getD}
 use Rattle.bits.specs.Field.{numberAt}
 use Rattle.bits.specs.Packed.{widths}
 use Rattle.bits.proofs.Laws.{number-lt}
@@ -252,6 +252,20 @@ rows-length f l (suc n) (a ∷ m) j = ap suc (rows-length f (l ++ a ∷ []) n m 
 pub judged-rows : {A : Type 0} (n : ℕ) (f : List A → Format A) (m : List A) → rows n f .judge m ≡ none → length m ≡ n
 unfolding rows
 judged-rows n f m j = rows-length f [] n m j
+
+module _ {A : Type 0} (f : List A → Format A) where
+  rows-each : (P : A → Type 0) → ((l : List A) (a : A) → f l .judge a ≡ none → P a) → (l : List A) (n : ℕ) (m : List A) → rowsJudge f l n m ≡ none
+      → (k : ℕ) (d : A) → P d → P (getD m k d)
+  unfolding rowsJudge
+  rows-each P each l n [] j k d h = h
+  rows-each P each l zero (a ∷ m) j k d h = absurd (let z : _≡_ {A = ℕ} 0 1 = cc in omega arith)
+  rows-each P each l (suc n) (a ∷ m) j zero d h = each l a (first-none _ _ j .0)
+  rows-each P each l (suc n) (a ∷ m) j (suc k) d h = rows-each P each (l ++ a ∷ []) n m (first-none (f l .judge a) _ j .1) k d h
+
+  -- what holds of each row without a fault, and of the default, holds at every place
+  pub judged-each : (n : ℕ) (m : List A) (P : A → Type 0) → ((l : List A) (a : A) → f l .judge a ≡ none → P a) → rows n f .judge m ≡ none → (k : ℕ) (d : A) → P d → P (getD m k d)
+  unfolding rows
+  judged-each n m P each j k d h = rows-each P each [] n m j k d h
 
 pub lawful-zeros : {A : Type 0} (f : Format A) → Lawful f → (w n : ℕ) → Lawful (zeros f w n)
 unfolding zeros

@@ -104,7 +104,6 @@ module _ {A : Type 0} (f : Format A) (law : Lawful f) where
         omega (arith, g .place),
       )
 
-  -- what writing refuses, its bytes are refused for
   -- what was read has no fault
   pub read-judged : (a : A) (s : List ℕ) (q : ℕ) → readFile f s ≡ ok a q → f .judge a ≡ none
   unfolding readFile ended
@@ -114,6 +113,7 @@ module _ {A : Type 0} (f : Format A) (law : Lawful f) where
       let (t₀, t₁, t₂) = tested-ok (eqb r (8 * length s)) 3 c r a q e₃ in
       subst (λ (b : A). f .judge b ≡ none) t₁ (law .back c s 0 p (omega arith) e₀ .judged)
 
+  -- what writing refuses, its bytes are refused for
   pub write-refused : (a : A) (n : ℕ) → writeFile f a ≡ refused n → 0 < n → Fit (f .fields a) → BadAt (readFile f (packed (f .fields a))) n
   unfolding writeFile readFile
   write-refused a n e z h =

@@ -11,7 +11,7 @@ use Rattle.format.specs.Format.{within}
 use Rattle.format.proofs.Bounded.{Bounded, Any, bounded-field, bounded-more, bounded-check, bounded-pair, bounded-via, bounded-zeros, bounded-rows}
 use Rattle.format.proofs.Chain.{within-true}
 use Rattle.policy.specs.Policy.{Head, Attr, Lists, bitsFor, width}
-use Rattle.policy.specs.File.{count, headFormat, attrFormat, classFormat, listsFormat, valueFormat, sessionFormat, formulaFormat, policyFormat}
+use Rattle.policy.specs.File.{count, headFormat, attrFormat, classFormat, listsFormat, valueFormat, sessionFormat, nodeFormat, formulaFormat, policyFormat}
 
 bounded-count : (w lo hi : ℕ) → Bounded (count w lo hi) (λ x. x ≤ hi) w
 unfolding count
@@ -51,15 +51,16 @@ bounded-head =
       permissions = u .1 .1 .1;
     })
 
-bounded-attr : Bounded attrFormat Any 12
+bounded-attr : (sizes : List ℕ) → Bounded (attrFormat sizes) Any 12
 unfolding attrFormat
-bounded-attr =
-    bounded-via _ _ _ (bounded-zeros _ (bounded-pair _ _ (bounded-field 1 _ 4) λ _ _. bounded-field 5 _ 4) 6 3) (λ p k. tt)
+bounded-attr sizes =
+    bounded-via _ _ _
+    (bounded-zeros _ (bounded-pair _ _ (bounded-field 1 _ 4) λ _ _. bounded-pair _ _ (bounded-field 5 _ 4) λ _ _. bounded-field 5 _ 18) 1 3) (λ p k. tt)
 
-bounded-class : (n : ℕ) → n ≤ 8 → Bounded (classFormat n) (λ l. width l ≤ 8) 96
+bounded-class : (sizes : List ℕ) (n : ℕ) → n ≤ 8 → Bounded (classFormat sizes n) (λ l. width l ≤ 8) 96
 unfolding classFormat
-bounded-class n h =
-    bounded-more _ (bounded-check _ (bounded-rows _ (λ _. bounded-attr) n 8 h) (λ l. leb (width l) 8) 5)
+bounded-class sizes n h =
+    bounded-more _ (bounded-check _ (bounded-rows _ (λ _. bounded-attr _) n 8 h) (λ l. leb (width l) 8) 5)
     (λ l k. leb-true (width l) 8 (k .1)) (omega arith)
 
 -- lists that are read: a value has at most 8 bits
@@ -72,8 +73,8 @@ bounded-lists : (h : Head) → Counts h → Bounded (listsFormat h) Narrow 288
 unfolding listsFormat
 bounded-lists h n =
     bounded-via _ _ _
-    (bounded-pair _ _ (bounded-class (h .userAttrs) (n .userAttrs)) λ _ _.
-    bounded-pair _ _ (bounded-class (h .sessionAttrs) (n .sessionAttrs)) λ _ _. bounded-class (h .itemAttrs) (n .itemAttrs))
+    (bounded-pair _ _ (bounded-class _ (h .userAttrs) (n .userAttrs)) λ _ _.
+    bounded-pair _ _ (bounded-class _ (h .sessionAttrs) (n .sessionAttrs)) λ _ _. bounded-class _ (h .itemAttrs) (n .itemAttrs))
     (λ p k. record { user = k .0; session = k .1 .0; item = k .1 .1 })
 
 bounded-width : (l : List Attr) → Bounded (valueFormat l) Any (width l)
@@ -89,12 +90,16 @@ bounded-session : (users : ℕ) (l : List Attr) → width l ≤ 8 → Bounded (s
 unfolding sessionFormat
 bounded-session users l h = bounded-via _ _ _ (bounded-pair _ _ (bounded-field 4 _ 7) λ _ _. bounded-value l h) (λ p k. tt)
 
+bounded-node : (c : Lists) (f i : ℕ) → Bounded (nodeFormat c f i) Any 20
+unfolding nodeFormat
+bounded-node c f i = bounded-more _ (bounded-check _ (bounded-field 20 _ 8) _ 19) (λ x k. tt) (omega arith)
+
 bounded-formula : (c : Lists) (f : ℕ) → Bounded (formulaFormat c f) Any 1288
 unfolding formulaFormat
 bounded-formula c f =
     bounded-via _ _ _
     (bounded-pair _ _ (bounded-field 8 (within 1 65) 8) λ n e.
-    bounded-rows _ (λ l. bounded-field 20 _ 8) n 64 (omega (arith, within-true 1 65 n e .1)))
+    bounded-rows _ (λ l. bounded-node c f (length l)) n 64 (omega (arith, within-true 1 65 n e .1)))
     (λ p k. tt)
 
 pub bounded-policy : Bounded policyFormat Any 16552

@@ -1,9 +1,9 @@
 -- Laws of rules in memory and of attributes. In order: tables; attributes of a class, values, starting sessions, nodes and formulas, each
--- with none, one more that is stored, one more that is read, and how many; the rules beside a number; the fewest bits; widths; values that a
--- format takes.
+-- with none, one more that is stored, one more that is read, and how many; the rules beside a number; the fewest bits; widths; list numbers do
+-- not matter for values; the sizes of lists; values that a format takes.
 -- Not here: nodes by their operators (NodeLaws), the format's laws (PolicyLaw).
 use mathlib.Core.Path.{_≡_, refl, sym, ap, _∙_, subst}
-use mathlib.Core.Bool.{cond}
+use mathlib.Core.Bool.{true, cond}
 use mathlib.Core.List.{List, [], _∷_, _++_}
 use mathlib.Core.Option.{none}
 use Prim.Native.Nat.{ℕ, zero, suc, _+_, _*_, _/_, _%_, _^_, _≤_, _<_}
@@ -12,16 +12,16 @@ use native.Mathlib.Nat.{div-lt-iff-lt-mul}
 use native.Mathlib.Omega.{arith}
 use borrow.Author.Tests.{le-leb, lt-leb, eq-eqb, ne-eqb}
 use lib.Dec.{leb}
-use lib.ListN.{length, getD, set}
+use lib.ListN.{length, getD, set, length-set}
 use lib.Pow.{pow-pos, pow-mono, pow-add}
 use lib.Seq.{getD-set-same, getD-set-other}
 use Rattle.bits.specs.Packed.{tab}
 use Rattle.bits.proofs.Laws.{pow-more}
 use Rattle.bits.proofs.Packed.{tab-ext, tab-more, tab-zero, length-tab, getD-tab}
-use Rattle.format.specs.Format.{within, via}
+use Rattle.format.specs.Format.{Format, field, within, pair, via}
 use Rattle.format.proofs.Law.{judged-field, judged-pair}
-use Rattle.policy.specs.Policy.{Attr, fewestFrom, fewestBits, bitsFor, codes, width}
-use Rattle.policy.specs.File.{valueFormat}
+use Rattle.policy.specs.Policy.{Attr, unlisted, fewestFrom, fewestBits, bitsFor, codes, width}
+use Rattle.policy.specs.File.{valueFormat, sizesAfter, sizeFits}
 use Rattle.policy.specs.Rules.{attrAt, attrsOf, valuesOf, sessionsOf, nodesOf, formulasOf, noRules, rulesBeside}
 use Rattle.policy.specs.declared.Class.{Class}
 use Rattle.policy.specs.declared.Values.{Values}
@@ -49,18 +49,32 @@ module _ {A : Type 0} where
 
 -- attributes of a class
 
-pub attrs-none : (kinds sizes : List ℕ) → attrsOf record { count = 0; kinds = kinds; sizes = sizes } ≡ []
+-- the first i attributes of a class
+abbrev pub cut : Class → ℕ → Class
+cut c i = record { count = i; kinds = c .kinds; sizes = c .sizes; lists = c .lists }
+
+-- a class with no list numbers
+abbrev pub withoutLists : Class → Class
+withoutLists c = record { count = c .count; kinds = c .kinds; sizes = c .sizes; lists = [] }
+
+pub attrs-none : (c : Class) → c .count ≡ 0 → attrsOf c ≡ []
 unfolding attrsOf
-attrs-none kinds sizes = tab-zero _ 0
+attrs-none c z = ap (λ (n : ℕ). tab (attrAt c) 0 n) z ∙ tab-zero _ 0
 
-pub attrs-more : (kinds sizes : List ℕ) (i k z : ℕ) → i < length kinds → i < length sizes →
-    attrsOf record { count = i + 1; kinds = set kinds i k; sizes = set sizes i z }
-    ≡ attrsOf record { count = i; kinds = kinds; sizes = sizes } ++ record { kind = k; size = z } ∷ []
+pub attrs-more : (c : Class) (i k z n : ℕ) → i < length (c .kinds) → i < length (c .sizes) → i < length (c .lists) →
+    attrsOf record { count = i + 1; kinds = set (c .kinds) i k; sizes = set (c .sizes) i z; lists = set (c .lists) i n }
+    ≡ attrsOf (cut c i) ++ record { kind = k; size = z; list = n } ∷ []
 unfolding attrsOf attrAt
-attrs-more kinds sizes i k z = tab-sets (λ k z. record { kind = k; size = z }) kinds sizes i k z
+attrs-more c i k z n hk hz hn =
+    tab-grows _ _ i record { kind = k; size = z; list = n }
+    (λ j m.
+    let ek = getD-set-other (c .kinds) i j k 0 (λ e. omega arith) in
+    let ez = getD-set-other (c .sizes) i j z 0 (λ e. omega arith) in
+    let en = getD-set-other (c .lists) i j n 0 (λ e. omega arith) in
+    cc)
+    (let ek = getD-set-same (c .kinds) i k 0 hk in let ez = getD-set-same (c .sizes) i z 0 hz in let en = getD-set-same (c .lists) i n 0 hn in cc)
 
-pub attrs-next : (c : Class) (i : ℕ) →
-    attrsOf record { count = i + 1; kinds = c .kinds; sizes = c .sizes } ≡ attrsOf record { count = i; kinds = c .kinds; sizes = c .sizes } ++ attrAt c i ∷ []
+pub attrs-next : (c : Class) (i : ℕ) → attrsOf (cut c (i + 1)) ≡ attrsOf (cut c i) ++ attrAt c i ∷ []
 unfolding attrsOf attrAt
 attrs-next c i = tab-more _ i
 
@@ -226,6 +240,74 @@ pub width-more : (l : List Attr) (a : Attr) → width (l ++ a ∷ []) ≡ width 
 unfolding width
 width-more [] a = omega arith
 width-more (b ∷ l) a = omega (arith, width-more l a)
+
+-- list numbers do not matter for values
+
+unlisted-tab : (f : ℕ → Attr) (i n : ℕ) → unlisted (tab f i n) ≡ tab (λ k. record { kind = f k .kind; size = f k .size; list = 0 }) i n
+unfolding unlisted tab
+unlisted-tab f i zero = refl
+unlisted-tab f i (suc n) = ap (λ (l : List Attr). record { kind = f i .kind; size = f i .size; list = 0 } ∷ l) (unlisted-tab f (suc i) n)
+
+pub attrs-unlisted : (c : Class) → attrsOf (withoutLists c) ≡ unlisted (attrsOf c)
+unfolding attrsOf attrAt
+attrs-unlisted c = sym (unlisted-tab (attrAt c) 0 (c .count))
+
+pub bits-unlisted : (a : Attr) → bitsFor record { kind = a .kind; size = a .size; list = 0 } ≡ bitsFor a
+unfolding bitsFor
+bits-unlisted a = refl
+
+pub codes-unlisted : (a : Attr) → codes record { kind = a .kind; size = a .size; list = 0 } ≡ codes a
+unfolding codes
+codes-unlisted a = refl
+
+pub width-unlisted : (l : List Attr) → width (unlisted l) ≡ width l
+unfolding width unlisted
+width-unlisted [] = refl
+width-unlisted (a ∷ l) = omega (arith, bits-unlisted a, width-unlisted l)
+
+pub width-any : (c : Class) → width (attrsOf (withoutLists c)) ≡ width (attrsOf c)
+width-any c = ap width (attrs-unlisted c) ∙ width-unlisted (attrsOf c)
+
+-- the format of an attribute's value and of those after it
+part : ℕ → ℕ → ℕ → Format ℕ → Format ℕ
+part w n b f = via (λ v. (v / 2 ^ b, v % 2 ^ b)) (λ p. p .0 * 2 ^ b + p .1) (pair (field w (within 0 n) 6) λ _. f)
+
+pub value-unlisted : (l : List Attr) → valueFormat (unlisted l) ≡ valueFormat l
+unfolding valueFormat unlisted part
+value-unlisted [] = refl
+value-unlisted (a ∷ l) =
+    ap (λ (w : ℕ). part w (codes record { kind = a .kind; size = a .size; list = 0 }) (width (unlisted l)) (valueFormat (unlisted l))) (bits-unlisted a)
+    ∙ ap (λ (n : ℕ). part (bitsFor a) n (width (unlisted l)) (valueFormat (unlisted l))) (codes-unlisted a)
+    ∙ ap (λ (b : ℕ). part (bitsFor a) (codes a) b (valueFormat (unlisted l))) (width-unlisted l)
+    ∙ ap (part (bitsFor a) (codes a) (width l)) (value-unlisted l)
+
+pub value-any : (c : Class) → valueFormat (attrsOf (withoutLists c)) ≡ valueFormat (attrsOf c)
+value-any c = ap valueFormat (attrs-unlisted c) ∙ value-unlisted (attrsOf c)
+
+-- the sizes of lists
+
+pub sizes-none : (sizes : List ℕ) → sizesAfter sizes [] ≡ sizes
+unfolding sizesAfter
+sizes-none sizes = refl
+
+pub sizes-app : (sizes : List ℕ) (l m : List Attr) → sizesAfter sizes (l ++ m) ≡ sizesAfter (sizesAfter sizes l) m
+unfolding sizesAfter
+sizes-app sizes [] m = refl
+sizes-app sizes (a ∷ l) m = sizes-app (set sizes (a .list) (a .size)) l m
+
+pub sizes-more : (sizes : List ℕ) (l : List Attr) (a : Attr) → sizesAfter sizes (l ++ a ∷ []) ≡ set (sizesAfter sizes l) (a .list) (a .size)
+unfolding sizesAfter
+sizes-more sizes l a = sizes-app sizes l (a ∷ [])
+
+pub sizes-length : (sizes : List ℕ) (l : List Attr) → length (sizesAfter sizes l) ≡ length sizes
+unfolding sizesAfter
+sizes-length sizes [] = refl
+sizes-length sizes (a ∷ l) = sizes-length (set sizes (a .list) (a .size)) l ∙ length-set sizes (a .list) (a .size)
+
+-- list 0 fits any size
+pub zero-fits : (sizes : List ℕ) (size list : ℕ) → list ≡ 0 → sizeFits sizes size list ≡ true
+unfolding sizeFits
+zero-fits sizes size list e = simp (eq-eqb list 0 e)
 
 -- values that a format takes
 

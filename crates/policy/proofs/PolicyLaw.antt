@@ -6,11 +6,10 @@ use mathlib.Core.List.{List, [], _∷_}
 use Prim.Native.Nat.{ℕ, _+_, _*_, _%_, _^_}
 use lib.ListN.{length}
 use lib.Pow.{split, high, low}
-use Rattle.format.specs.Format.{field, rows}
+use Rattle.format.specs.Format.{rows}
 use Rattle.format.proofs.Law.{Lawful, lawful-field, lawful-check, lawful-pair, lawful-via, lawful-rows, lawful-zeros, judged-pair, judged-rows}
 use Rattle.policy.specs.Policy.{Head, Attr, Lists, bitsFor, width}
-use Rattle.policy.specs.Nodes.{nodeOk}
-use Rattle.policy.specs.File.{count, headFormat, attrFormat, classFormat, listsFormat, valueFormat, sessionFormat, formulaFormat, policyFormat}
+use Rattle.policy.specs.File.{count, headFormat, attrFormat, classFormat, listsFormat, valueFormat, sessionFormat, nodeFormat, formulaFormat, policyFormat}
 use Rattle.policy.proofs.Laws.{value-lt}
 
 lawful-count : (w lo hi : ℕ) → Lawful (count w lo hi)
@@ -28,19 +27,20 @@ lawful-head =
     (λ b j. refl)
     (λ a j. refl)
 
-pub lawful-attr : Lawful attrFormat
+pub lawful-attr : (sizes : List ℕ) → Lawful (attrFormat sizes)
 unfolding attrFormat
-lawful-attr =
-    lawful-via _ _ _ (lawful-zeros _ (lawful-pair _ _ (lawful-field 1 _ 4) λ kind. lawful-field 5 _ 4) 6 3) (λ b j. refl) (λ a j. refl)
+lawful-attr sizes =
+    lawful-via _ _ _ (lawful-zeros _ (lawful-pair _ _ (lawful-field 1 _ 4) λ kind. lawful-pair _ _ (lawful-field 5 _ 4) λ size. lawful-field 5 _ 18) 1 3)
+    (λ b j. refl) (λ a j. refl)
 
-pub lawful-class : (n : ℕ) → Lawful (classFormat n)
+pub lawful-class : (sizes : List ℕ) (n : ℕ) → Lawful (classFormat sizes n)
 unfolding classFormat
-lawful-class n = lawful-check _ (lawful-rows _ (λ _. lawful-attr) n) _ 5
+lawful-class sizes n = lawful-check _ (lawful-rows _ (λ _. lawful-attr _) n) _ 5
 
 pub lawful-lists : (h : Head) → Lawful (listsFormat h)
 unfolding listsFormat
 lawful-lists h =
-    lawful-via _ _ _ (lawful-pair _ _ (lawful-class (h .userAttrs)) λ _. lawful-pair _ _ (lawful-class (h .sessionAttrs)) λ _. lawful-class (h .itemAttrs))
+    lawful-via _ _ _ (lawful-pair _ _ (lawful-class _ (h .userAttrs)) λ _. lawful-pair _ _ (lawful-class _ (h .sessionAttrs)) λ _. lawful-class _ (h .itemAttrs))
     (λ b j. refl) (λ a j. refl)
 
 pub lawful-value : (l : List Attr) → Lawful (valueFormat l)
@@ -56,13 +56,17 @@ pub lawful-session : (n : ℕ) (l : List Attr) → Lawful (sessionFormat n l)
 unfolding sessionFormat
 lawful-session n l = lawful-via _ _ _ (lawful-pair _ _ (lawful-field 4 _ 7) λ _. lawful-value l) (λ b j. refl) (λ a j. refl)
 
+pub lawful-node : (c : Lists) (f i : ℕ) → Lawful (nodeFormat c f i)
+unfolding nodeFormat
+lawful-node c f i = lawful-check _ (lawful-field 20 _ 8) _ 19
+
 pub lawful-formula : (c : Lists) (f : ℕ) → Lawful (formulaFormat c f)
 unfolding formulaFormat
 lawful-formula c f =
-    lawful-via _ _ _ (lawful-pair _ _ (lawful-field 8 _ 8) λ n. lawful-rows _ (λ l. lawful-field 20 _ 8) n) (λ b j. refl)
+    lawful-via _ _ _ (lawful-pair _ _ (lawful-field 8 _ 8) λ n. lawful-rows _ (λ l. lawful-node c f (length l)) n) (λ b j. refl)
     (λ p j.
     ap (λ (x : ℕ). (x, p .1))
-    (judged-rows (p .0) _ (p .1) (judged-pair _ (λ n. rows n λ l. field 20 (nodeOk c f (length l)) 8) (p .0) (p .1) j .1)))
+    (judged-rows (p .0) _ (p .1) (judged-pair _ (λ n. rows n λ l. nodeFormat c f (length l)) (p .0) (p .1) j .1)))
 
 pub lawful-policy : Lawful policyFormat
 unfolding policyFormat

@@ -1,12 +1,13 @@
--- Which nodes a formula may have [01:The rule file, the operator table and the two paragraphs after it].
+-- Which nodes a formula may have [01:The rule file, the operator table and the two paragraphs after it; 02:T-01].
 -- A node is the number of its 20 bits: operator (4), a (8), b (8). A value operand is a holder (3) and an attribute number (5).
 -- Assumes nothing.
-use mathlib.Core.Bool.{Bool, false, _&&_, _||_, cond}
+use mathlib.Core.Bool.{Bool, true, false, _&&_, _||_, cond}
 use mathlib.Core.List.{List}
 use Prim.Native.Nat.{ℕ, _/_, _%_}
 use lib.Dec.{ltb, leb, eqb}
 use lib.ListN.{length, getD}
-use Rattle.policy.specs.Policy.{Attr, Lists}
+use Rattle.format.specs.Format.{within}
+use Rattle.policy.specs.Policy.{Attr, noAttr, Lists}
 
 -- a node's operator
 unfoldable pub opOf : ℕ → ℕ
@@ -41,11 +42,13 @@ mayUse f h =
 unfoldable pub ofHolder : Lists → ℕ → List Attr
 ofHolder c h = cond (eqb h 0) (c .ofUser) (cond (leb h 2) (c .ofSession) (c .ofItem))
 
+-- the attribute that the operand x names; of a constant it says nothing
+unfoldable pub named : Lists → ℕ → Attr
+named c x = getD (ofHolder c (holderOf x)) (placeOf x) noAttr
+
 -- whether the operand x of formula f names an attribute of the kind
 unfoldable pub names : Lists → ℕ → ℕ → ℕ → Bool
-names c f kind x =
-    let l = ofHolder c (holderOf x) in
-    mayUse f (holderOf x) && ltb (placeOf x) (length l) && eqb (getD l (placeOf x) record { kind = 0; size = 0 } .kind) kind
+names c f kind x = mayUse f (holderOf x) && ltb (placeOf x) (length (ofHolder c (holderOf x))) && eqb (named c x .kind) kind
 
 -- whether it names an atomic value: an attribute, or a constant from 0 to 15
 unfoldable pub atomic : Lists → ℕ → ℕ → Bool
@@ -62,3 +65,11 @@ nodeOk c f i x =
     (cond (leb (opOf x) 7) (atomic c f a && atomic c f b)
     (cond (eqb (opOf x) 8) (atomic c f a && names c f 1 b)
     (cond (leb (opOf x) 10) (names c f 1 a && names c f 1 b) false)))))
+
+-- whether two operands have the same list number; a constant fits any list
+unfoldable pub sameList : Lists → ℕ → ℕ → Bool
+sameList c a b = eqb (holderOf a) 5 || eqb (holderOf b) 5 || eqb (named c a .list) (named c b .list)
+
+-- whether node x compares no attributes of different lists: operators 5 to 10 compare
+unfoldable pub listsAgree : Lists → ℕ → Bool
+listsAgree c x = cond (within 5 11 (opOf x)) (sameList c (firstOf x) (secondOf x)) true

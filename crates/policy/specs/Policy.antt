@@ -16,10 +16,21 @@ pub record Head : Type 0 where
   pub items : ℕ
   pub permissions : ℕ
 
--- an attribute: kind 0 is atomic, 1 a set; its list has size values
+-- an attribute: kind 0 is atomic, 1 a set; its list has size values. Attributes whose lists have the same number other than 0 use the same list
+-- [02:T-01, "a list number, 0 to 31"]
 pub record Attr : Type 0 where
   pub kind : ℕ
   pub size : ℕ
+  pub list : ℕ
+
+-- what stands where there is no attribute
+unfoldable pub noAttr : Attr
+noAttr = record { kind = 0; size = 0; list = 0 }
+
+-- the same attributes, each of list 0
+unfoldable pub unlisted : List Attr → List Attr
+unlisted [] = []
+unlisted (a ∷ l) = record { kind = a .kind; size = a .size; list = 0 } ∷ unlisted l
 
 -- the attributes of users, of sessions and of items
 pub record Lists : Type 0 where
@@ -50,7 +61,7 @@ fewestFrom (suc k) w n = let later = fewestFrom k (suc w) n in cond (leb n (2 ^ 
 unfoldable pub fewestBits : ℕ → ℕ
 fewestBits n = fewestFrom n 0 n
 
--- the bits of one value of an attribute
+-- the bits of one value of an attribute, whatever the number of its list
 unfoldable pub bitsFor : Attr → ℕ
 bitsFor a = cond (eqb (a .kind) 0) (fewestBits (a .size)) (a .size)
 

@@ -17,7 +17,7 @@ use Rattle.policy.specs.declared.Rules.{Rules}
 
 -- attribute k of a class
 unfoldable pub attrAt : Class → ℕ → Attr
-attrAt c k = record { kind = getD (c .kinds) k 0; size = getD (c .sizes) k 0 }
+attrAt c k = record { kind = getD (c .kinds) k 0; size = getD (c .sizes) k 0; list = getD (c .lists) k 0 }
 
 -- the attributes of a class
 unfoldable pub attrsOf : Class → List Attr
@@ -67,7 +67,7 @@ policyOf r =
 -- the rules of no file: every count and every place is 0
 unfoldable pub noRules : Rules
 noRules =
-    let none : Class = record { count = 0; kinds = replicate 8 0; sizes = replicate 8 0 } in
+    let none : Class = record { count = 0; kinds = replicate 8 0; sizes = replicate 8 0; lists = replicate 8 0 } in
     let empty : Values = record { count = 0; values = replicate 32 0 } in
     record {
       classes = record { user = none; session = none; item = none };

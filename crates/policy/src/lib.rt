@@ -5,11 +5,13 @@ ghost use Rattle.policy.specs.Rules.{noRules};
 pub mod nodes;
 pub mod shape;
 
-// The attributes of one class of holders, count of them: attribute k is of kind kinds[k] (0 atomic, 1 a set) and size sizes[k].
+// The attributes of one class of holders, count of them: attribute k is of kind kinds[k] (0 atomic, 1 a set), size sizes[k] and list number
+// lists[k].
 pub struct Class {
     pub count: u8,
     pub kinds: [u8; 8],
     pub sizes: [u8; 8],
+    pub lists: [u8; 8],
 }
 
 // The attributes of users, sessions and items.
@@ -53,6 +55,7 @@ pub fn no_rules() -> Rules
         count: 0,
         kinds: [0; 8],
         sizes: [0; 8],
+        lists: [0; 8],
     };
     let empty = Values {
         count: 0,

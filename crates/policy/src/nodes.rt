@@ -1,6 +1,9 @@
 // Which nodes a formula may have.
 ghost use mathlib.Core.Path.{_≡_};
-ghost use Rattle.policy.specs.Nodes.{mayUse, ofHolder, names as namesOf, atomic as atomicOf, nodeOk};
+ghost use Prim.Native.Nat.{_≤_};
+ghost use mathlib.Core.Bool.{_&&_, _||_, cond};
+ghost use lib.Dec.{ltb, leb, eqb};
+ghost use Rattle.policy.specs.Nodes.{holderOf, mayUse, ofHolder, named, names, atomic, nodeOk, listsAgree};
 ghost use Rattle.policy.specs.Rules.{attrsOf, listsOf};
 use super::Class;
 use super::Classes;
@@ -44,71 +47,121 @@ fn of_holder(classes: Classes, h: u32) -> Class
     classes.item
 }
 
-// Whether operand x of formula f names an attribute of the kind.
-fn names(classes: Classes, f: usize, kind: u8, x: u32) -> bool
-    ensures { λ r. ⌜ r ≡ namesOf (listsOf classes) f kind x ⌝ }
+// What an operand of a formula names: sort 0 an atomic attribute, 1 a set attribute, 2 a constant from 0 to 15, 3 none of these. Of an attribute
+// the list number is given too.
+pub struct Operand {
+    pub sort: u8,
+    pub list: u8,
+}
+
+// What operand x of formula f names.
+fn named_by(classes: Classes, f: usize, x: u32) -> Operand
+    ensures { λ r. ⌜ (eqb (r .sort) 0 || eqb (r .sort) 2) ≡ atomic (listsOf classes) f x ⌝ }
+    ensures { λ r. ⌜ eqb (r .sort) 1 ≡ names (listsOf classes) f 1 x ⌝ }
+    ensures { λ r. ⌜ (r .sort ≡ 2 → holderOf x ≡ 5) ⌝ }
+    ensures { λ r. ⌜ (r .sort ≤ 1 → (holderOf x ≡ 5 → ⊥) × (r .list ≡ named (listsOf classes) x .list)) ⌝ }
 {
+    let none = Operand { sort: 3, list: 0 };
     let h = x / 32;
+    let k = (x % 32) as usize;
+    if h == 5 {
+        if k < 16 {
+            return Operand { sort: 2, list: 0 };
+        }
+        return none;
+    }
     if !may_use(f, h) {
-        return false;
+        return none;
     }
     let class = of_holder(classes, h);
-    let k = (x % 32) as usize;
     if class.count as usize <= k {
-        return false;
+        return none;
     }
     let kinds = class.kinds;
-    byte_at(&kinds, k) == kind
-}
-
-// Whether operand x of formula f names an atomic value: an attribute, or a constant from 0 to 15.
-fn atomic(classes: Classes, f: usize, x: u32) -> bool
-    ensures { λ r. ⌜ r ≡ atomicOf (listsOf classes) f x ⌝ }
-{
-    if x / 32 == 5 {
-        return x % 32 < 16;
+    let kind = byte_at(&kinds, k);
+    if 1 < kind {
+        return none;
     }
-    names(classes, f, 0, x)
+    let lists = class.lists;
+    Operand {
+        sort: kind,
+        list: byte_at(&lists, k),
+    }
 }
 
-// Whether x may be node i of formula f.
-pub fn node_ok(classes: Classes, f: usize, i: usize, x: u32) -> bool
-    ensures { λ r. ⌜ r ≡ nodeOk (listsOf classes) f i x ⌝ }
+// Whether a sort is that of an atomic value: an attribute (0) or a constant (2).
+fn is_atomic(sort: u8) -> bool
+    ensures { λ r. ⌜ r ≡ (eqb sort 0 || eqb sort 2) ⌝ }
 {
-    let op = x / 65536;
-    let a = x / 256 % 256;
-    let b = x % 256;
+    if sort == 0 {
+        return true;
+    }
+    sort == 2
+}
+
+// Whether operator op, 5 to 10, takes operands of these sorts.
+fn takes_values(op: u32, first: u8, second: u8) -> bool
+    ensures { λ r. ⌜ r ≡ cond (leb op 7) ((eqb first 0 || eqb first 2) && (eqb second 0 || eqb second 2))
+        (cond (eqb op 8) ((eqb first 0 || eqb first 2) && eqb second 1) (eqb first 1 && eqb second 1)) ⌝ }
+{
+    if op <= 8 {
+        if !is_atomic(first) {
+            return false;
+        }
+        if op <= 7 {
+            return is_atomic(second);
+        }
+        return second == 1;
+    }
+    if first == 1 { second == 1 } else { false }
+}
+
+// Whether operator op, 0 to 4, takes a and b in node i: nothing, or earlier nodes.
+fn takes_nodes(op: u32, i: usize, a: u32, b: u32) -> bool
+    ensures { λ r. ⌜ r ≡ cond (leb op 1) (eqb a 0 && eqb b 0) (cond (eqb op 2) (ltb a i && eqb b 0) (ltb a i && ltb b i)) ⌝ }
+{
     if op <= 1 {
         if a == 0 {
             return b == 0;
         }
         return false;
     }
+    if i <= a as usize {
+        return false;
+    }
     if op == 2 {
-        if (a as usize) < i {
-            return b == 0;
-        }
-        return false;
+        return b == 0;
     }
+    (b as usize) < i
+}
+
+// What is wrong with x as node i of formula f: 8 where it may not stand there, 19 where it compares attributes of different lists, else 0.
+pub fn node_fault(classes: Classes, f: usize, i: usize, x: u32) -> u8
+    ensures { λ r. ⌜ r ≡ cond (nodeOk (listsOf classes) f i x) (cond (listsAgree (listsOf classes) x) 0 19) 8 ⌝ }
+{
+    let op = x / 65536;
+    let a = x / 256 % 256;
+    let b = x % 256;
     if op <= 4 {
-        if (a as usize) < i {
-            return (b as usize) < i;
+        if takes_nodes(op, i, a, b) {
+            return 0;
         }
-        return false;
+        return 8;
     }
-    if op <= 8 {
-        if !atomic(classes, f, a) {
-            return false;
-        }
-        if op <= 7 {
-            return atomic(classes, f, b);
-        }
-        return names(classes, f, 1, b);
+    if 10 < op {
+        return 8;
     }
-    if op <= 10 {
-        if names(classes, f, 1, a) {
-            return names(classes, f, 1, b);
-        }
+    let p = named_by(classes, f, a);
+    let q = named_by(classes, f, b);
+    if !takes_values(op, p.sort, q.sort) {
+        return 8;
     }
-    false
+    // a constant fits any list
+    if p.sort == 2 {
+        return 0;
+    }
+    if q.sort == 2 {
+        return 0;
+    }
+    if p.list == q.list { 0 } else { 19 }
 }

@@ -1,9 +1,10 @@
-// What attributes are like: how many bits a value takes, which codes stand for one, how wide a class is. Total: any numbers will do.
+// What attributes are like: how many bits a value takes, which codes stand for one, how wide a class is, which sizes lists have. Total: any
+// numbers will do.
 ghost use mathlib.Core.Path.{_≡_};
-ghost use Prim.Native.Nat.{_*_, _≤_};
-ghost use lib.ListN.{getD};
+ghost use Prim.Native.Nat.{ℕ, _*_, _≤_};
+ghost use lib.ListN.{getD, set};
 ghost use Rattle.format.specs.Format.{within as withinOf};
-ghost use Rattle.policy.specs.File.{largest as largestOf};
+ghost use Rattle.policy.specs.File.{largest as largestOf, sizeFits};
 ghost use Rattle.policy.specs.Policy.{Attr, fewestBits, bitsFor, codes, width};
 ghost use Rattle.policy.specs.Rules.{attrsOf};
 use super::Class;
@@ -37,16 +38,16 @@ fn fewest_bits(n: u8) -> u8
     w
 }
 
-// The bits of one value of an attribute.
+// The bits of one value of an attribute, whatever its list.
 pub fn bits_for(kind: u8, size: u8) -> u8
-    ensures { λ r. ⌜ r ≡ bitsFor record { kind = kind; size = size } ⌝ }
+    ensures { λ r. ⌜ ((n : ℕ) → r ≡ bitsFor record { kind = kind; size = size; list = n }) ⌝ }
 {
     if kind == 0 { fewest_bits(size) } else { size }
 }
 
-// Whether x stands for a value of an attribute.
+// Whether x stands for a value of an attribute, whatever its list.
 pub fn code_ok(kind: u8, size: u8, x: u64) -> bool
-    ensures { λ r. ⌜ r ≡ withinOf 0 (codes record { kind = kind; size = size }) x ⌝ }
+    ensures { λ r. ⌜ ((n : ℕ) → r ≡ withinOf 0 (codes record { kind = kind; size = size; list = n }) x) ⌝ }
 {
     if kind == 0 {
         return x < size as u64;
@@ -67,4 +68,28 @@ pub fn class_width(class: Class) -> usize
         w += bits_for(byte_at(&kinds, i), byte_at(&sizes, i)) as usize;
     }
     w
+}
+
+// Whether an attribute of so many values may use the list, where earlier ones gave the lists these sizes.
+pub fn size_fits(sizes: &[u8], size: u8, list: u8) -> bool
+    ensures { λ r. ⌜ r ≡ sizeFits (now (sizes .entry)) size list ⌝ }
+{
+    if list == 0 {
+        return true;
+    }
+    let earlier = byte_at(sizes, list as usize);
+    if earlier == 0 {
+        return true;
+    }
+    earlier == size
+}
+
+// The list has this size from now on. A list number past the end changes nothing.
+pub fn set_size(sizes: &mut [u8], list: u8, size: u8)
+    ensures { λ r. ⌜ now (sizes .exit) ≡ set (now (sizes .entry)) list size ⌝ }
+{
+    let k = list as usize;
+    if k < sizes.len() {
+        sizes[k] = size;
+    }
 }

@@ -89,15 +89,15 @@ record Long (h : Head) (c : Lists) : Type 0 where
   session : length (c .ofSession) ≡ h .sessionAttrs
   item : length (c .ofItem) ≡ h .itemAttrs
 
-only-class : (n : ℕ) → Only (classFormat n) (λ l. length l ≡ n)
+only-class : (sizes : List ℕ) (n : ℕ) → Only (classFormat sizes n) (λ l. length l ≡ n)
 unfolding classFormat
-only-class n = only-check _ _ _ _ (only-rows n _)
+only-class sizes n = only-check _ _ _ _ (only-rows n _)
 
 only-lists : (h : Head) → Only (listsFormat h) (Long h)
 unfolding listsFormat
 only-lists h =
     only-via _ _ _ _ _
-    (only-pair _ _ _ _ (only-class (h .userAttrs)) λ _. only-pair _ _ _ _ (only-class (h .sessionAttrs)) λ _. only-class (h .itemAttrs))
+    (only-pair _ _ _ _ (only-class _ (h .userAttrs)) λ _. only-pair _ _ _ _ (only-class _ (h .sessionAttrs)) λ _. only-class _ (h .itemAttrs))
     (λ p k. record { user = k .0; session = k .1 .0; item = k .1 .1 })
 
 only-policy : Only policyFormat (λ p. Long (p .head) (p .lists))

@@ -27,7 +27,7 @@ headOf c =
 
 -- the attribute that was read
 unfoldable pub attrOf : Attribute → Attr
-attrOf a = record { kind = a .kind; size = a .size }
+attrOf a = record { kind = a .kind; size = a .size; list = a .list }
 
 -- the session that was read
 unfoldable pub sessionOf : SessionRead → Session

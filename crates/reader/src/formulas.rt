@@ -2,19 +2,35 @@
 ghost use mathlib.Core.Path.{_≡_};
 ghost use Prim.Native.Nat.{_+_, _^_, _≤_, _<_};
 ghost use lib.ListN.{length};
-ghost use Rattle.format.specs.Format.{Format, field, rows};
+ghost use Rattle.format.specs.Format.{Format, rows};
 ghost use Rattle.format.specs.Steps.{from, resOf};
-ghost use Rattle.policy.specs.Nodes.{nodeOk};
-ghost use Rattle.policy.specs.File.{formulaFormat};
+ghost use Rattle.policy.specs.File.{nodeFormat, formulaFormat};
 ghost use Rattle.policy.specs.Rules.{listsOf, nodesOf, formulasOf};
 ghost use Rattle.reader.specs.Parts.{Earlier};
 use super::FormulasRead;
 use format::Cursor;
+use format::Taken;
 use format::judged;
 use format::read_field;
 use format::take;
 use policy::Classes;
-use policy::nodes::node_ok;
+use policy::nodes::node_fault;
+
+// Node i of formula f.
+fn read_node(s: &[u8], at: Cursor, classes: Classes, f: usize, i: usize) -> Taken
+    requires { ⌜ at .pos < 2 ^ 39 ⌝ }
+    ensures { λ r. ⌜ resOf (r .at) (r .value) ≡ from at (nodeFormat (listsOf classes) f i .read (now (s .entry))) ⌝ }
+    ensures { λ r. ⌜ (r .at .pos ≤ at .pos + 20) × (r .value < 2 ^ 20) ⌝ }
+{
+    let t = take(s, at, 20);
+    let x = t.value as u32;
+    let n = node_fault(classes, f, i, x);
+    let next = judged(t.at, n == 0, n);
+    Taken {
+        at: next,
+        value: t.value,
+    }
+}
 
 // The n nodes of formula f, stored at its places.
 fn read_nodes(
@@ -26,16 +42,15 @@ fn read_nodes(
     nodes: &mut [u32],
 ) -> Cursor
     requires { ⌜ (n ≤ 64) × (f < 12) × (length (now nodes) ≡ 768) × (at .pos < 2 ^ 37) ⌝ }
-    ensures { λ r. ⌜ resOf r (nodesOf (now (nodes .exit)) f n) ≡ from at (rows n (λ l. field 20 (nodeOk (listsOf classes) f (length l)) 8) .read (now (s .entry))) ⌝ }
+    ensures { λ r. ⌜ resOf r (nodesOf (now (nodes .exit)) f n) ≡ from at (rows n (λ l. nodeFormat (listsOf classes) f (length l)) .read (now (s .entry))) ⌝ }
     ensures { λ r. ⌜ Earlier (now (nodes .entry)) (now (nodes .exit)) f ⌝ }
     ensures { λ r. ⌜ r .pos ≤ at .pos + 1280 ⌝ }
 {
     let mut p = at;
     for i in 0..n {
-        let t = take(s, p, 20);
-        let x = t.value as u32;
-        let next = judged(t.at, node_ok(classes, f, i, x), 8);
-        nodes[64 * f + i] = x;
+        let t = read_node(s, p, classes, f, i);
+        nodes[64 * f + i] = t.value as u32;
+        let next = t.at;
         p = next;
     }
     p

@@ -42,6 +42,7 @@ pub struct Attribute {
     pub at: Cursor,
     pub kind: u8,
     pub size: u8,
+    pub list: u8,
 }
 
 // The attributes of a class as they were read; none where a number was given.

@@ -1,7 +1,8 @@
--- Laws of the answers. In order: an answer to reading and the result behind it, the last cursor, the end of the bytes, what writing
--- answers and leaves.
+-- Laws of the answers. In order: an answer to reading and the result behind it, what judging says of the rules, the last cursor, the end of the bytes, what
+-- writing answers and leaves.
 use mathlib.Core.Path.{_≡_, refl, sym, ap, _∙_}
 use mathlib.Core.List.{List, [], _∷_, _++_}
+use mathlib.Core.Option.{none, some}
 use Prim.Native.Nat.{ℕ, _*_, _/_, _%_, _≤_, _<_}
 use native.Mathlib.Decide.{ℕ-discrete}
 use native.Mathlib.Omega.{arith}
@@ -14,8 +15,10 @@ use Rattle.format.specs.Steps.{resOf, Stores}
 use Rattle.format.specs.declared.Cursor.{Cursor}
 use Rattle.format.proofs.Fault.{BadAt, fault-none, none-fault}
 use Rattle.format.proofs.Chain.{res-good, res-bad}
+use Rattle.format.proofs.Round.{read-judged, refused-judged}
 use Rattle.policy.specs.Policy.{Policy}
 use Rattle.policy.specs.File.{policyFormat}
+use Rattle.policy.proofs.PolicyLaw.{lawful-policy}
 use Rattle.rules.specs.Answers.{refusal, rules, answerOf, answered, reading, writing, writtenOf, filled}
 use Rattle.rules.specs.declared.Reading.{Reading}
 use Rattle.rules.specs.declared.Reading.the-variants as Reading
@@ -55,6 +58,13 @@ same-reading s s′ e = ap answered e
 pub writing-is : (p : Policy) → writing p ≡ writeFile policyFormat p
 unfolding writing
 writing-is p = refl
+
+-- rules that are read have no fault; what writing refuses has one
+pub reading-judged : (s : List ℕ) (p : Policy) → reading s ≡ rules p → policyFormat .judge p ≡ none
+reading-judged s p e = reading-rules s p e (λ q f. read-judged policyFormat lawful-policy p s q f)
+
+pub writing-judged : (p : Policy) (n : ℕ) → writing p ≡ refused n → policyFormat .judge p ≡ some n
+writing-judged p n e = refused-judged policyFormat p n (sym (writing-is p) ∙ e)
 
 module _ (s : List ℕ) (c : Cursor) (p : Policy) (e : resOf c p ≡ readFile policyFormat s) where
   -- the last cursor has a number: it is the answer

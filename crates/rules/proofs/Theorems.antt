@@ -3,18 +3,19 @@ use mathlib.Core.Path.{sym, _∙_}
 use native.Mathlib.Omega.{arith}
 use lib.ListN.{take}
 use Rattle.format.proofs.Bounded.{file-short, file-cut}
-use Rattle.format.proofs.Refuses.{refuses-file}
-use Rattle.format.proofs.Round.{write-read, read-write, write-refused, refused-judged}
+use Rattle.format.proofs.Round.{write-read, read-write, write-refused}
 use Rattle.policy.proofs.Bound.{bounded-policy}
 use Rattle.policy.proofs.Laws.{fewest-enough, fewest-least}
-use Rattle.policy.proofs.Numbers.{gives-policy, given-above}
-use Rattle.policy.proofs.ReadNumbers.{Told, told-1, told-3, refuses-policy}
+use Rattle.policy.proofs.Listed.{one-size, compared-agree}
+use Rattle.policy.proofs.ListFaults.{eighteen-says, nineteen-says, gives-unlisted}
+use Rattle.policy.proofs.Numbers.{given-above, gives-given}
+use Rattle.policy.proofs.ReadNumbers.{read-told, read-unlisted}
 use Rattle.policy.proofs.PolicyLaw.{lawful-policy}
 use Rattle.policy.specs.File.{policyFormat}
 use Rattle.policy.specs.Rules.{policyOf}
 use Rattle.rules.specs.Claims.{BytesAgain, RulesAgain, ReadingNumbers, WritingNumbers, WritingRefusesAsReading, SizeTakesFewestBits}
-use Rattle.rules.specs.Claims.{largestFile, FrontDecides}
-use Rattle.rules.proofs.Laws.{reading-rules, reading-refusal, rules-reading, refusal-reading, same-reading, writing-is}
+use Rattle.rules.specs.Claims.{OneSizePerList, ComparedListsAgree, ListZeroFitsAll, ListFaults, largestFile, FrontDecides}
+use Rattle.rules.proofs.Laws.{reading-rules, reading-refusal, rules-reading, refusal-reading, same-reading, writing-is, reading-judged, writing-judged}
 
 pub bytes-again : BytesAgain
 bytes-again s p b e = reading-rules s p e (λ q f. writing-is p ∙ read-write policyFormat lawful-policy p s q b f .0)
@@ -23,13 +24,35 @@ pub rules-again : RulesAgain
 rules-again p s e = rules-reading s p _ (write-read policyFormat lawful-policy p s (sym (writing-is p) ∙ e))
 
 pub reading-numbers : ReadingNumbers
-reading-numbers s n e = reading-refusal s n e (λ q d. refuses-file Told policyFormat told-1 told-3 refuses-policy s n q d)
+reading-numbers s n e = reading-refusal s n e (read-told s n)
 
 pub writing-numbers : WritingNumbers
-writing-numbers r n e = gives-policy r .only n (refused-judged policyFormat (policyOf r) n (sym (writing-is (policyOf r)) ∙ e))
+writing-numbers r n e = gives-given r .only n (writing-judged (policyOf r) n e)
 
 pub writing-refuses-as-reading : WritingRefusesAsReading
 writing-refuses-as-reading r n e f = refusal-reading _ n (write-refused policyFormat lawful-policy (policyOf r) n (sym (writing-is (policyOf r)) ∙ e) (given-above (writing-numbers r n e)) f)
+
+pub one-size-per-list : OneSizePerList
+one-size-per-list s p e = one-size p (reading-judged s p e)
+
+pub compared-lists-agree : ComparedListsAgree
+compared-lists-agree s p e f i c = compared-agree p (reading-judged s p e) f i (c .from-5) (c .to-10) (c .first) (c .second)
+
+pub list-zero-fits-all : ListZeroFitsAll
+list-zero-fits-all =
+    record {
+      read = λ s n z e. reading-refusal s n e (read-unlisted s z n);
+      written = λ r n z e. gives-unlisted r z n (writing-judged (policyOf r) n e);
+    }
+
+pub list-faults : ListFaults
+list-faults =
+    record {
+      eighteen = λ r e. eighteen-says r (writing-judged (policyOf r) 18 e);
+      nineteen = λ r e.
+          let (f, i, d) = nineteen-says r (writing-judged (policyOf r) 19 e) in
+          (f, i, (record { from-5 = d .from-5; to-10 = d .to-10; first = d .first; second = d .second }, d .differ));
+    }
 
 pub size-takes-fewest-bits : SizeTakesFewestBits
 size-takes-fewest-bits n = (fewest-enough n, fewest-least n)

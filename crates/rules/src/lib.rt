@@ -40,7 +40,8 @@ fn at_end(s: &[u8], pos: usize) -> bool
     }
 }
 
-// Reads a file: its rules, or the first number 1 to 8 and the rules of no file. The file is read once, field by field.
+// Reads a file: its rules, or the file's number (1 to 8, 18 or 19: the first in reading order) and the rules of no file. The file is read once,
+// field by field.
 pub fn read_rules(file: &[u8]) -> Parsed
     ensures { λ r. ⌜ answerOf (r .answer) (policyOf (r .rules)) ≡ reading (now (file .entry)) ⌝ }
     ensures { λ r. ⌜ r .rules ≡ beside (r .answer) (r .rules) ⌝ }

@@ -11,11 +11,11 @@ fewest-bits-requires c κs = search needs
 
 returns : tie.Need-returns
 unfolding bitsFor
-returns c = simp (eq-eqb _ _ (c .before .if1 .taken), c .fewest-bits .ensures)
+returns c n = simp (eq-eqb _ _ (c .before .if1 .taken), c .fewest-bits .ensures)
 
 returns-2 : tie.Need-returns-2
 unfolding bitsFor
-returns-2 c = simp (ne-eqb _ _ (c .if1 .left))
+returns-2 c n = simp (ne-eqb _ _ (c .if1 .left))
 
 pub bits-for-spec : {M : Type 1} → statement M
 bits-for-spec = tie.close (tie.spec fewest-bits-requires returns returns-2)

@@ -8,12 +8,9 @@ use native.Mathlib.Omega.{arith}
 use borrow.Author.Needs.{needs}
 use lib.ListN.{length, set}
 use lib.Seq.{getD-set-other}
-use Rattle.format.specs.Format.{Format, field}
+use Rattle.format.specs.Format.{Format}
 use Rattle.format.specs.Steps.{from, resOf}
-use Rattle.format.specs.declared.Cursor.{Cursor}
-use Rattle.format.proofs.Chain.{chain-field, res-bits}
-use Rattle.format.proofs.Fault.{judged-pos}
-use Rattle.policy.specs.Nodes.{nodeOk}
+use Rattle.policy.specs.File.{nodeFormat}
 use Rattle.policy.specs.Rules.{listsOf, nodesOf}
 use Rattle.policy.specs.declared.Classes.{Classes}
 use Rattle.policy.proofs.Laws.{nodes-none, nodes-more, nodes-length}
@@ -23,7 +20,7 @@ use Rattle.reader.proofs.formulas.read_nodes.Statement.{statement}
 use Rattle.reader.proofs.formulas.read_nodes.Tie as tie
 
 abbrev row : Classes → ℕ → List ℕ → Format ℕ
-row classes f l = field 20 (nodeOk (listsOf classes) f (length l)) 8
+row classes f l = nodeFormat (listsOf classes) f (length l)
 
 earlier-set : (l m : List ℕ) (f i x : ℕ) → Earlier l m f → Earlier l (set m (64 * f + i) x) f
 earlier-set l m f i x r = record { same = λ j h. getD-set-other m (64 * f + i) j x 0 (λ e. omega arith) ∙ r .same j h }
@@ -45,17 +42,11 @@ loop-holds c =
       reached-none (row (a .classes) (a .f)) (a .s .now) (a .n) (a .at) _ (nodes-none _ (a .f)),
     )
 
-take-requires : tie.Need-take-requires Inv-loop μ-loop
-take-requires c κs = search needs
+read-node-requires : tie.Need-read-node-requires Inv-loop μ-loop
+read-node-requires c κs = search needs
 
-cast-x : tie.Need-cast-x Inv-loop μ-loop
-cast-x c = search needs
-
-node-ok-requires : tie.Need-node-ok-requires Inv-loop μ-loop
-node-ok-requires c κs = search needs
-
-judged-requires : tie.Need-judged-requires Inv-loop μ-loop
-judged-requires c κs = search needs
+cast-nodes : tie.Need-cast-nodes Inv-loop μ-loop
+cast-nodes c = search needs
 
 mul-nodes : tie.Need-mul-nodes Inv-loop μ-loop
 mul-nodes c = search needs
@@ -77,19 +68,15 @@ loop-less c = search needs
 
 loop-again : tie.Need-loop-again Inv-loop μ-loop
 loop-again c =
-    let o = c .before .node-ok in
-    let t = c .before .before .before .take in
-    let l = c .before .before .before .before .before .loop in
-    let a = c .before .before .before .before .before .before .before .before .args in
+    let t = c .before .before .read-node in
+    let l = c .before .before .before .before .loop in
+    let a = c .before .before .before .before .before .before .before .args in
     let x = t .result .value in
-    let same : c .judged .result .pos ≡ t .result .at .pos = ap (λ (z : Cursor). z .pos) (c .judged .ensures) ∙ judged-pos (t .result .at) (o .result) 8 in
-    let read : resOf (c .judged .result) x ≡ from (l .p) (row (a .classes) (a .f) (nodesOf (l .nodes) (a .f) (l .i)) .read (a .s .now)) =
-    ap (λ (z : Cursor). resOf z x) (c .judged .ensures)
-    ∙ chain-field 20 _ 8 (a .s .now) (l .p) (t .result .at) x (o .result) (res-bits (a .s .now) (l .p) 20 (t .result) (t .ensures .0))
-    (o .ensures ∙ ap (λ (k : ℕ). nodeOk (listsOf (a .classes)) (a .f) k x) (sym (nodes-length (l .nodes) (a .f) (l .i)))) (omega arith) in (
+    let read : resOf (t .result .at) x ≡ from (l .p) (row (a .classes) (a .f) (nodesOf (l .nodes) (a .f) (l .i)) .read (a .s .now)) =
+    t .ensures .0 ∙ ap (λ (k : ℕ). from (l .p) (nodeFormat (listsOf (a .classes)) (a .f) k .read (a .s .now))) (sym (nodes-length (l .nodes) (a .f) (l .i))) in (
       search needs,
       search needs,
-      omega (arith, same, t .ensures .1 .place, l .inv .2),
+      omega (arith, t .ensures .1 .0, l .inv .2),
       earlier-set _ _ (a .f) (l .i) x (l .inv .3),
       reached-more (row (a .classes) (a .f)) (a .s .now) (a .n) (a .at) (l .p) _ _ _ (l .i) x (omega arith) (l .inv .4) read
           (nodes-more (l .nodes) (a .f) (l .i) x (omega arith)),
@@ -114,10 +101,8 @@ read-nodes-spec =
     Inv-loop
     μ-loop
     loop-holds
-    take-requires
-    cast-x
-    node-ok-requires
-    judged-requires
+    read-node-requires
+    cast-nodes
     mul-nodes
     add-nodes
     mul-nodes-2

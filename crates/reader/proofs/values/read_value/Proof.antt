@@ -1,21 +1,24 @@
 -- `reader::values::read_value` meets its contract. The loop's invariant: the values of the attributes so far, with what is read for the others, are
--- the value that the format reads, and both fit 8 bits. The measure is how many attributes are left. The last step is the format's field of no
--- bits. Assumes nothing.
-use mathlib.Core.Path.{_≡_}
-use Prim.Native.Nat.{_+_, _-_, _*_, _%_, _^_, _≤_}
+-- the value that the format reads, whatever the lists, and both fit 8 bits. The measure is how many attributes are left. The last step is the
+-- format's field of no bits. Assumes nothing.
+use mathlib.Core.Path.{_≡_, ap, _∙_}
+use mathlib.Core.List.{[]}
+use Prim.Native.Nat.{ℕ, _+_, _-_, _*_, _%_, _^_, _≤_}
 use native.Mathlib.Nat.{mod-eq-of-lt}
 use native.Mathlib.Omega.{arith}
 use borrow.Author.Needs.{needs}
-use Rattle.format.specs.Steps.{judged}
+use Rattle.format.specs.Format.{Format}
+use Rattle.format.specs.Steps.{from, judged}
 use Rattle.format.proofs.Chain.{res-bits}
 use Rattle.policy.specs.Rules.{attrAt}
+use Rattle.policy.proofs.Laws.{withoutLists, width-any, value-any}
 use Rattle.reader.proofs.Value.{Partly, partly-none, partly-room, partly-more, partly-below, partly-all}
 use Rattle.reader.proofs.values.read_value.Statement.{statement}
 use Rattle.reader.proofs.values.read_value.Tie as tie
 
 abbrev Inv-loop : tie.InvT-loop
 Inv-loop s kinds sizes v₀ p₀ i₀ i-end v p i =
-    (i ≤ i-end) × (i-end ≤ 8) × Partly s record { count = i-end; kinds = kinds; sizes = sizes } p₀ p v i
+    (i ≤ i-end) × (i-end ≤ 8) × Partly s record { count = i-end; kinds = kinds; sizes = sizes; lists = [] } p₀ p v i
 
 abbrev μ-loop : tie.MeasureT-loop
 μ-loop s kinds sizes v₀ p₀ i₀ i-end v p i = i-end - i
@@ -26,7 +29,7 @@ unfolding attrAt
 room c =
     let l = c .before .before .loop in
     let a = c .before .before .before .before .before .before .before .args in
-    partly-room (a .s .now) (a .class) (a .at) (l .p) (l .v) (l .i) (c .bits-for .result) (omega arith) (l .inv .2) (c .bits-for .ensures)
+    partly-room (a .s .now) (withoutLists (a .class)) (a .at) (l .p) (l .v) (l .i) (c .bits-for .result) (omega arith) (l .inv .2) (c .bits-for .ensures 0)
 
 cast-i-end : tie.Need-cast-i-end Inv-loop μ-loop
 cast-i-end c = search needs
@@ -34,7 +37,8 @@ cast-i-end c = search needs
 loop-holds : tie.Need-loop-holds Inv-loop μ-loop
 loop-holds c =
     let k = c .before .before .before .before in
-    (search needs, omega (arith, k .pre .1 .count), partly-none (k .args .s .now) (k .args .class) (k .args .at) (k .pre .1 .wide))
+    let class = k .args .class in
+    (search needs, omega (arith, k .pre .1 .count), partly-none (k .args .s .now) (withoutLists class) (k .args .at) (omega (arith, width-any class, k .pre .1 .wide)))
 
 array-read-kind : tie.Need-array-read-kind Inv-loop μ-loop
 array-read-kind c = search needs
@@ -85,8 +89,8 @@ loop-again c =
       search needs,
       search needs,
       rw (c .judged .ensures, exact)
-          (partly-more (a .s .now) (a .class) (a .at) (l .p) (l .v) (l .i) w (omega arith) (l .inv .2) (b .bits-for .ensures) (t .result .at) (t .result .value) (o .result)
-          (res-bits (a .s .now) (l .p) w (t .result) (t .ensures .0)) (t .ensures .1 .fits) (t .ensures .1 .place) (o .ensures)),
+          (partly-more (a .s .now) (withoutLists (a .class)) (a .at) (l .p) (l .v) (l .i) w (omega arith) (l .inv .2) (b .bits-for .ensures 0) (t .result .at) (t .result .value) (o .result)
+          (res-bits (a .s .now) (l .p) w (t .result) (t .ensures .0)) (t .ensures .1 .fits) (t .ensures .1 .place) (o .ensures 0)),
     )
 
 take-requires-2 : tie.Need-take-requires-2 Inv-loop μ-loop
@@ -97,9 +101,13 @@ returns c =
     let t = c .before .take2 in
     let l = c .before .before .before .loop in
     let a = c .before .before .before .before .before .before .before .before .args in (
-      partly-all (a .s .now) (a .class) (a .at) (l .p) (l .v) (l .i) (omega arith) (l .inv .2) (t .result .at) (t .result .value)
-          (res-bits (a .s .now) (l .p) 0 (t .result) (t .ensures .0)) (t .ensures .1 .fits),
-      (omega (arith, t .ensures .1 .place, l .inv .2 .place), partly-below (a .s .now) (a .class) (a .at) (l .p) (l .v) (l .i) (omega arith) (l .inv .2)),
+      partly-all (a .s .now) (withoutLists (a .class)) (a .at) (l .p) (l .v) (l .i) (omega arith) (l .inv .2) (t .result .at) (t .result .value)
+          (res-bits (a .s .now) (l .p) 0 (t .result) (t .ensures .0)) (t .ensures .1 .fits)
+          ∙ ap (λ (f : Format ℕ). from (a .at) (f .read (a .s .now))) (value-any (a .class)),
+      (
+        omega (arith, t .ensures .1 .place, l .inv .2 .place),
+        partly-below (a .s .now) (withoutLists (a .class)) (a .at) (l .p) (l .v) (l .i) (omega arith) (l .inv .2),
+      ),
     )
 
 pub read-value-spec : {M : Type 1} → statement M

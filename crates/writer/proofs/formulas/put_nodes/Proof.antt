@@ -4,10 +4,10 @@ use mathlib.Core.Path.{_≡_, refl}
 use Prim.Native.Nat.{_+_, _*_, _-_, _≤_}
 use native.Mathlib.Omega.{arith}
 use lib.ListN.{length}
-use Rattle.format.specs.Format.{field, rows}
+use Rattle.format.specs.Format.{rows}
 use Rattle.format.specs.Steps.{Stores}
-use Rattle.format.proofs.Store.{stores-field, stores-rows-begin, stores-rows-turn}
-use Rattle.policy.specs.Nodes.{nodeOk}
+use Rattle.format.proofs.Store.{stores-rows-begin, stores-rows-turn}
+use Rattle.policy.specs.File.{nodeFormat}
 use Rattle.policy.specs.Rules.{listsOf, nodesOf}
 use Rattle.policy.proofs.Laws.{nodes-none, nodes-next, nodes-length}
 use Rattle.writer.proofs.formulas.put_nodes.Statement.{statement}
@@ -16,7 +16,7 @@ use Rattle.writer.proofs.formulas.put_nodes.Tie as tie
 abbrev Inv-loop : tie.InvT-loop
 Inv-loop out₀ classes f n nodes p₀ i₀ i-end out p i =
     (i ≤ i-end) × (length out ≡ length out₀) × (p .pos ≤ p₀ .pos + 20 * i)
-    × Stores (rows i (λ l. field 20 (nodeOk (listsOf classes) f (length l)) 8)) (nodesOf nodes f i) out₀ out p₀ p
+    × Stores (rows i (λ l. nodeFormat (listsOf classes) f (length l))) (nodesOf nodes f i) out₀ out p₀ p
 
 abbrev μ-loop : tie.MeasureT-loop
 μ-loop out₀ classes f n nodes p₀ i₀ i-end out p i = i-end - i
@@ -33,14 +33,8 @@ add-node-at c = omega arith
 node-at-requires : tie.Need-node-at-requires Inv-loop μ-loop
 node-at-requires c κs = tt
 
-cast-put-field : tie.Need-cast-put-field Inv-loop μ-loop
-cast-put-field c = omega arith
-
-node-ok-requires : tie.Need-node-ok-requires Inv-loop μ-loop
-node-ok-requires c κs = tt
-
-put-field-requires : tie.Need-put-field-requires Inv-loop μ-loop
-put-field-requires c κs = omega arith
+put-node-requires : tie.Need-put-node-requires Inv-loop μ-loop
+put-node-requires c κs = omega arith
 
 add-i : tie.Need-add-i Inv-loop μ-loop
 add-i c = omega arith
@@ -51,14 +45,13 @@ loop-less c = omega arith
 loop-again : tie.Need-loop-again Inv-loop μ-loop
 loop-again c =
     let k = c .before .before in
-    let l = k .before .before .before .before .before .loop in
-    let a = k .before .before .before .before .before .before .before .before .args in (
+    let l = k .before .before .before .before .loop in
+    let a = k .before .before .before .before .before .before .before .args in (
       omega arith,
       omega arith,
       omega arith,
-      rw (nodes-next (a .nodes .now) (a .f) (l .i), ← k .before .before .before .node-at .ensures)
-          (stores-rows-turn _ (l .i) (nodes-length _ _ _) (l .inv .3)
-          (stores-field 20 _ 8 _ (rw nodes-length (k .before .node-ok .ensures)) (k .put-field .ensures .0))),
+      rw (nodes-next (a .nodes .now) (a .f) (l .i), ← k .before .before .node-at .ensures)
+          (stores-rows-turn _ (l .i) (nodes-length _ _ _) (l .inv .3) (rw nodes-length (k .put-node .ensures .0))),
     )
 
 same-length : tie.Need-same-length Inv-loop μ-loop
@@ -80,9 +73,7 @@ put-nodes-spec =
     mul-node-at
     add-node-at
     node-at-requires
-    cast-put-field
-    node-ok-requires
-    put-field-requires
+    put-node-requires
     add-i
     loop-less
     loop-again

@@ -1,7 +1,8 @@
 -- `writer::values::put_value` meets its contract. The loop's invariant: whoever stores what is left by the attributes from i on has stored the
--- whole value; `rest` is how wide those attributes are, each of the first i took no more than 255 bits, and the bytes are as many as before.
--- The measure is how many attributes are left.
+-- whole value; `rest` is how wide those attributes are, each of the first i took no more than 255 bits, and the bytes are as many as before. It
+-- speaks of the attributes without their list numbers, which do not matter for values. The measure is how many attributes are left.
 use mathlib.Core.Path.{_≡_, refl, sym, ap, _∙_}
+use mathlib.Core.List.{[]}
 use Prim.Native.Nat.{_+_, _*_, _-_, _≤_}
 use borrow.Author.Needs.{needs}
 use native.Mathlib.Omega.{arith}
@@ -9,13 +10,14 @@ use lib.ListN.{length}
 use Rattle.policy.specs.Policy.{Attr, width}
 use Rattle.policy.specs.Rules.{attrAt}
 use Rattle.policy.specs.declared.Class.{Class}
+use Rattle.policy.proofs.Laws.{withoutLists, width-any, value-any}
 use Rattle.writer.proofs.Value.{attrsFrom, from-all, from-width, Onward, onward-begin, onward-turn, onward-end}
 use Rattle.writer.proofs.values.put_value.Statement.{statement}
 use Rattle.writer.proofs.values.put_value.Tie as tie
 
 abbrev Inv-loop : tie.InvT-loop
 Inv-loop out₀ v kinds sizes rest₀ x₀ p₀ i₀ i-end out rest x p i =
-    let class : Class = record { count = i-end; kinds = kinds; sizes = sizes } in
+    let class : Class = record { count = i-end; kinds = kinds; sizes = sizes; lists = [] } in
     (i ≤ i-end) × (length out ≡ length out₀) × (p .pos ≤ p₀ .pos + 255 * i) × (rest ≡ width (attrsFrom class i)) × Onward class x₀ out₀ p₀ i x out p
 
 abbrev μ-loop : tie.MeasureT-loop
@@ -25,7 +27,8 @@ abbrev μ-loop : tie.MeasureT-loop
 attr :
     (c : tie.After-byte-at2 Inv-loop μ-loop)
     → let l = c .before .before .before .before .before in
-    _≡_ {A = Attr} (record { kind = c .before .before .byte-at .result; size = c .byte-at2 .result }) (attrAt (l .before .before .before .before .before .before .args .class) (l .loop .i))
+    let class = withoutLists (l .before .before .before .before .before .before .args .class) in
+    _≡_ {A = Attr} (record { kind = c .before .before .byte-at .result; size = c .byte-at2 .result; list = 0 }) (attrAt class (l .loop .i))
 unfolding attrAt
 attr c = rw (c .before .before .byte-at .ensures, c .byte-at2 .ensures)
 
@@ -33,11 +36,13 @@ attr c = rw (c .before .before .byte-at .ensures, c .byte-at2 .ensures)
 wide :
     (c : tie.After-bits-for Inv-loop μ-loop)
     → let l = c .before .before .before .before .before .before in
-    l .loop .rest ≡ c .bits-for .result + width (attrsFrom (l .before .before .before .before .before .before .args .class) (l .loop .i + 1))
+    let class = withoutLists (l .before .before .before .before .before .before .args .class) in
+    l .loop .rest ≡ c .bits-for .result + width (attrsFrom class (l .loop .i + 1))
 wide c =
     let t = c .before .before .before .before .before in
     let l = t .before in
-    omega (arith, from-width (l .before .before .before .before .before .before .args .class) (l .loop .i) (t .loop-test .taken) (attr (c .before)))
+    let class = withoutLists (l .before .before .before .before .before .before .args .class) in
+    omega (arith, c .bits-for .ensures 0, from-width class (l .loop .i) (t .loop-test .taken) (attr (c .before)))
 
 class-width-requires : tie.Need-class-width-requires Inv-loop μ-loop
 class-width-requires c κs = tt
@@ -48,7 +53,8 @@ cast-i-end c = omega arith
 loop-holds : tie.Need-loop-holds Inv-loop μ-loop
 loop-holds c =
     let class = c .before .before .before .before .before .args .class in
-    (omega arith, refl, omega arith, c .before .class-width .ensures .0 ∙ ap width (sym (from-all class)), onward-begin class)
+    let bare = withoutLists class in
+    (omega arith, refl, omega arith, c .before .class-width .ensures .0 ∙ sym (width-any class) ∙ ap width (sym (from-all bare)), onward-begin bare)
 
 slice-aggregate-byte-at : tie.Need-slice-aggregate-byte-at Inv-loop μ-loop
 slice-aggregate-byte-at c = search needs
@@ -94,13 +100,14 @@ loop-again c =
     let k = c .before .before in
     let m = k .before .before .before .before .before in
     let t = m .before .before .before .before .before in
-    let l = t .before in (
+    let l = t .before in
+    let class = withoutLists (l .before .before .before .before .before .before .args .class) in (
       omega arith,
       omega arith,
       omega arith,
       omega (arith, wide m),
-      onward-turn (l .before .before .before .before .before .before .args .class) (l .loop .i) (t .loop-test .taken) (attr (m .before)) (m .bits-for .ensures) (k .before .code-ok .ensures)
-          (omega (arith, wide m)) (k .before .before .before .before .high-bits .ensures) (k .before .before .before .low-bits .ensures) (l .loop .inv .4) (k .put-field .ensures .0),
+      onward-turn class (l .loop .i) (t .loop-test .taken) (attr (m .before)) (m .bits-for .ensures 0) (k .before .code-ok .ensures 0) (omega (arith, wide m))
+          (k .before .before .before .before .high-bits .ensures) (k .before .before .before .low-bits .ensures) (l .loop .inv .4) (k .put-field .ensures .0),
     )
 
 put-field-requires-2 : tie.Need-put-field-requires-2 Inv-loop μ-loop
@@ -115,7 +122,7 @@ returns c =
     let l = k .before .before .before .loop in
     let class = k .before .before .before .before .before .before .before .before .before .args .class in
     let e : l .i ≡ class .count = omega arith in
-    (onward-end class (rw e at (l .inv .4)) (k .put-field2 .ensures .0), omega arith)
+    (rw (value-any class) at (onward-end (withoutLists class) (rw e at (l .inv .4)) (k .put-field2 .ensures .0)), omega arith)
 
 pub put-value-spec : {M : Type 1} → statement M
 put-value-spec =

@@ -1,7 +1,8 @@
--- `writer_head::lists::put_attr` meets its contract: the kind, the size, which the kind bounds, and the zero bits, each stored after the one before it.
+-- `writer_head::lists::put_attr` meets its contract: the kind, the size, which the kind bounds, the list number, which was judged by what
+-- `size_fits` says of it, and the zero bit, each stored after the one before it.
 use native.Mathlib.Omega.{arith}
-use Rattle.format.proofs.Store.{stores-pair, stores-via, stores-zeros}
-use Rattle.policy.specs.File.{attrFormat}
+use Rattle.format.proofs.Store.{stores-pair, stores-via, stores-field, stores-zeros}
+use Rattle.policy.specs.File.{sizeFits, attrFormat}
 use Rattle.writer_head.proofs.lists.put_attr.Statement.{statement}
 use Rattle.writer_head.proofs.lists.put_attr.Tie as tie
 
@@ -17,8 +18,14 @@ add-put-range c = omega arith
 put-range-requires-2 : tie.Need-put-range-requires-2
 put-range-requires-2 c κs = omega arith
 
+size-fits-requires : tie.Need-size-fits-requires
+size-fits-requires c κs = tt
+
 put-field-requires : tie.Need-put-field-requires
 put-field-requires c κs = omega arith
+
+put-field-requires-2 : tie.Need-put-field-requires-2
+put-field-requires-2 c κs = omega arith
 
 same-length : tie.Need-same-length
 same-length c = omega arith
@@ -26,13 +33,17 @@ same-length c = omega arith
 returns : tie.Need-returns
 unfolding attrFormat
 returns c =
-    let k₃ = c .before .before in
-    let k₂ = k₃ .before .before .before .before in
+    let k₄ = c .before .before in
+    let k₃ = k₄ .before .before .before .before in
+    let k₂ = k₃ .before .before .before .before .before in
     let k₁ = k₂ .before .before .before .before .before in
-    let a = k₁ .before .before .before .args in (
-      stores-via _ _ _ (record { kind = a .kind; size = a .size })
-          (stores-zeros _ 6 3 (stores-pair _ _ (k₁ .put-range .ensures .0) (rw (k₂ .before .largest .ensures .0) at (k₂ .put-range2 .ensures .0)))
-          (k₃ .put-field .ensures .0)),
+    let a = k₁ .before .before .before .before .args in (
+      stores-via _ _ _ (record { kind = a .kind; size = a .size; list = a .list })
+          (stores-zeros _ 1 3
+          (stores-pair _ _ (k₁ .put-range .ensures .0)
+          (stores-pair _ _ (rw (k₂ .before .largest .ensures .0) at (k₂ .put-range2 .ensures .0))
+          (stores-field 5 (sizeFits (a .known .now) (a .size)) 18 (a .list) (k₃ .before .size-fits .ensures) (k₃ .put-field .ensures .0))))
+          (k₄ .put-field2 .ensures .0)),
       omega arith,
     )
 
@@ -44,6 +55,8 @@ put-attr-spec =
     largest-requires
     add-put-range
     put-range-requires-2
+    size-fits-requires
     put-field-requires
+    put-field-requires-2
     same-length
     returns)

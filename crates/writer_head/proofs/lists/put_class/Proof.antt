@@ -1,4 +1,4 @@
--- `writer_head::lists::put_class` meets its contract: the attributes, then the check on their width.
+-- `writer_head::lists::put_class` meets its contract: the attributes, then the check on their width, which leaves the sizes of the lists alone.
 use mathlib.Core.Path.{ap}
 use Prim.Native.Nat.{ℕ}
 use native.Mathlib.Omega.{arith}
@@ -22,16 +22,22 @@ judged-requires c κs = tt
 same-length : tie.Need-same-length
 same-length c = omega arith
 
+same-length-2 : tie.Need-same-length-2
+same-length-2 c = omega arith
+
 returns : tie.Need-returns
 unfolding classFormat
 returns c =
-    let k = c .before .before .before .before in (
+    let k = c .before .before .before .before .before .before in (
       rw (c .judged .ensures)
           (stores-check _ _ 5 (k .put-attrs .ensures .0) (ap (λ (w : ℕ). leb w 8) (c .before .class-width .ensures .0)) (omega arith)),
-      omega (arith, ap (λ (p : Cursor). p .pos) (c .judged .ensures), judged-pos (k .put-attrs .result) (leb (c .before .class-width .result) 8) 5),
+      (
+        k .put-attrs .ensures .1 .0,
+        omega (arith, ap (λ (p : Cursor). p .pos) (c .judged .ensures), judged-pos (k .put-attrs .result) (leb (c .before .class-width .result) 8) 5),
+      ),
     )
 
 pub put-class-spec : {M : Type 1} → statement M
 put-class-spec =
     tie.close
-    (tie.spec put-attrs-requires class-width-requires judged-requires same-length returns)
+    (tie.spec put-attrs-requires class-width-requires judged-requires same-length same-length-2 returns)

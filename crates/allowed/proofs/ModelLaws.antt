@@ -1,16 +1,22 @@
 -- Laws of the model, for callers. In order: of rules in memory its counts and the values in the lists; of any policy the same, what each formula is
--- asked, and that listed values are bytes; policies with the same model.
+-- asked, and that listed values are bytes; policies with the same model: other starts, no list numbers, a basis and nodes.
 use mathlib.Core.Path.{_≡_, refl, ap}
-use mathlib.Core.Bool.{Bool, true}
+use mathlib.Core.Bool.{Bool, true, false, cond}
+use mathlib.Core.List.{[]}
 use Prim.Native.Nat.{ℕ, _+_, _<_}
+use lib.Dec.{leb, eqb}
 use lib.ListN.{length, getD}
-use Rattle.policy.specs.Policy.{Policy}
+use Rattle.policy.specs.Policy.{unlisted, Policy}
+use Rattle.policy.specs.Nodes.{ofHolder}
 use Rattle.policy.specs.Rules.{attrsOf, listsOf, valuesOf, policyOf}
 use Rattle.policy.specs.declared.Rules.{Rules}
 use Rattle.policy.proofs.Laws.{values-length}
 use Rattle.lists.specs.Lists.{listed}
-use Rattle.lists.proofs.Laws.{listed-byte}
+use Rattle.lists.proofs.Laws.{listed-byte, listed-unlisted}
+use Rattle.formulas.specs.declared.Holders.{Holders}
+use Rattle.formulas.proofs.ListLaws.{holds-same}
 use Rattle.allowed.specs.Allowed.{says, opening, changing, making, modifying, accessing, userValue, modelOf}
+use Rattle.allowed.specs.Claims.{unlistedPolicy}
 use Rattle.allowed.specs.Basis.{BasisOf, modelBy, InLists}
 use Rattle.allowed.specs.declared.Basis.{Basis}
 
@@ -88,6 +94,38 @@ pub model-same : (p q : Policy) → p .head .permissions ≡ q .head .permission
     → modelOf p ≡ modelOf q
 unfolding modelOf says userValue
 model-same p q a b c d = rw (a, b, c, d) refl
+
+-- list numbers make no difference either
+
+holder-unlisted : (p : Policy) (h : ℕ) → ofHolder (unlistedPolicy p .lists) h ≡ unlisted (ofHolder (p .lists) h)
+unfolding unlistedPolicy ofHolder
+holder-unlisted p h = go (eqb h 0) (leb h 2)
+  where
+    go : (a b : Bool) → cond a (unlisted (p .lists .ofUser)) (cond b (unlisted (p .lists .ofSession)) (unlisted (p .lists .ofItem)))
+        ≡ unlisted (cond a (p .lists .ofUser) (cond b (p .lists .ofSession) (p .lists .ofItem)))
+    go true b = refl
+    go false true = refl
+    go false false = refl
+
+says-unlisted : (p : Policy) (f : ℕ) (h : Holders) → says (unlistedPolicy p) f h ≡ says p f h
+unfolding says unlistedPolicy
+says-unlisted p f h = holds-same (p .lists) (unlistedPolicy p .lists) (holder-unlisted p) h (getD (p .formulas) f [])
+
+pub model-unlisted : (p : Policy) → modelOf (unlistedPolicy p) ≡ modelOf p
+unfolding modelOf unlistedPolicy userValue
+model-unlisted p =
+    λ i.
+    record {
+      users = length (p .users);
+      permissions = p .head .permissions;
+      sessionValue = λ v. listed-unlisted (p .lists .ofSession) v i;
+      itemValue = λ o. listed-unlisted (p .lists .ofItem) o i;
+      mayOpen = λ u v. says-unlisted p 0 (opening (userValue p u) v) i;
+      mayChange = λ u v w. says-unlisted p 1 (changing (userValue p u) v w) i;
+      mayMake = λ v o. says-unlisted p 2 (making v o) i;
+      mayModify = λ v o n. says-unlisted p 3 (modifying v o n) i;
+      mayAccess = λ k v o. says-unlisted p (4 + k) (accessing v o) i;
+    }
 
 -- what rules allow is what their basis and nodes do
 module _ (r : Rules) (b : Basis) (B : BasisOf r b) where

@@ -1,4 +1,5 @@
 -- in reading order
 pub mod Allowed  -- what rules allow, as a model of runs
+pub mod Claims  -- what is proved of it
 pub mod Basis  -- what formulas are asked by, beside their nodes
 pub mod Sweep  -- private vocabulary: one formula, many values

@@ -10,4 +10,5 @@ pub mod Decides  -- what the published promise of an answer rests on
 pub mod Refusals  -- answers that give a number
 pub mod Numbers  -- the numbers and verdicts of an answer, by relations
 pub mod Few  -- how large the counts of an answer are
+pub mod Unlisted  -- list numbers do not matter to what is told
 pub mod Theorems  -- the claims

@@ -8,6 +8,7 @@ use native.Mathlib.Decide.{decLt}
 use native.Mathlib.Omega.{arith}
 use Rattle.policy.specs.Policy.{Policy}
 use Rattle.rules.specs.Answers.{Answer as Read, refusal, rules, reading}
+use Rattle.rules.specs.Claims.{FileNumber}
 use Rattle.rules.proofs.Theorems.{reading-numbers}
 use Rattle.verdict.specs.Verdict.{leaks}
 use Rattle.allowed.specs.Allowed.{modelOf}
@@ -101,6 +102,11 @@ few-is p room = (λ h. h, λ h. h)
 
 -- the numbers
 
+-- a number of a file that is not above the analyser's own
+early : (n : ℕ) → FileNumber n → n ≤ 17 → (1 ≤ n) × (n ≤ 8)
+early n (inl g) h = g
+early n (inr g) h = absurd (omega arith)
+
 module _ (file question : List ℕ) (room : ℕ) (t : Told) (e : t ≡ told (reading file) question room) where
   number-is : {n : ℕ} → t ≡ refused n → t .number ≡ n
   number-is {n} x = ap (λ (y : Told). y .number) x ∙ refused-number n
@@ -138,21 +144,21 @@ module _ (file question : List ℕ) (room : ℕ) (t : Told) (e : t ≡ told (rea
       neither v (inl x) z = omega arith
       neither v (inr x) z = omega arith
 
-  pub is-of-file : (k : ℕ) → 1 ≤ k → k ≤ 8 → (t .number ≡ k) ↔ (reading file ≡ refusal k)
-  is-of-file k low high = (forth (came file question room t e), λ r. number-is (e ∙ refused-file-is-told file question room k r))
+  pub is-of-file : (k : ℕ) → FileNumber k → (t .number ≡ k) ↔ (reading file ≡ refusal k)
+  is-of-file k g = (forth (came file question room t e), λ r. number-is (e ∙ refused-file-is-told file question room k r))
     where
       forth : Came file question room t → t .number ≡ k → reading file ≡ refusal k
       forth (unread n r x) y = r ∙ ap refusal (sym (number-is x) ∙ y)
-      forth (nine p r b x) y = absurd (omega (arith, number-is x))
-      forth (ten p r b a x) y = absurd (omega (arith, number-is x))
-      forth (eleven p r b a l x) y = absurd (omega (arith, number-is x))
-      forth (judged p r b a l x) y = absurd (omega (arith, judged-number p x))
+      forth (nine p r b x) y = absurd (omega (arith, number-is x, early k g (omega (arith, number-is x)) .1))
+      forth (ten p r b a x) y = absurd (omega (arith, number-is x, early k g (omega (arith, number-is x)) .1))
+      forth (eleven p r b a l x) y = absurd (omega (arith, number-is x, early k g (omega (arith, number-is x)) .1))
+      forth (judged p r b a l x) y = absurd (omega (arith, judged-number p x, early k g (omega (arith, judged-number p x)) .0))
 
   pub is-either : (t .number ≡ 0) ↔ (t .verdict ≡ noVerdict → ⊥)
   is-either = (forth (came file question room t e), back (came file question room t e))
     where
       forth : Came file question room t → t .number ≡ 0 → t .verdict ≡ noVerdict → ⊥
-      forth (unread n r x) y = λ z. omega (arith, number-is x, reading-numbers file n r .0)
+      forth (unread n r x) y = λ z. omega (arith, number-is x, early n (reading-numbers file n r) (omega (arith, number-is x)) .0)
       forth (nine p r b x) y = λ z. omega (arith, number-is x)
       forth (ten p r b a x) y = λ z. omega (arith, number-is x)
       forth (eleven p r b a l x) y = λ z. omega (arith, number-is x)
@@ -179,7 +185,7 @@ module _ (file question : List ℕ) (room : ℕ) (t : Told) (e : t ≡ told (rea
   is-nine = (forth (came file question room t e), λ (p, r, n). number-is (told-as p r (told-nine p question room (not-false p r n))))
     where
       forth : Came file question room t → t .number ≡ 9 → (p : Policy) × (reading file ≡ rules p) × StartCouldNot p
-      forth (unread n r x) y = absurd (omega (arith, number-is x, reading-numbers file n r .1))
+      forth (unread n r x) y = absurd (omega (arith, number-is x, early n (reading-numbers file n r) (omega (arith, number-is x)) .1))
       forth (nine p r b x) y = (p, r, one-could-not p (file-sound file p r) b)
       forth (ten p r b a x) y = absurd (omega (arith, number-is x))
       forth (eleven p r b a l x) y = absurd (omega (arith, number-is x))
@@ -192,7 +198,7 @@ module _ (file question : List ℕ) (room : ℕ) (t : Told) (e : t ≡ told (rea
   )
     where
       forth : Came file question room t → t .number ≡ 10 → (p : Policy) × (reading file ≡ rules p) × StartCould p × (AsksSomething p question → ⊥)
-      forth (unread n r x) y = absurd (omega (arith, number-is x, reading-numbers file n r .1))
+      forth (unread n r x) y = absurd (omega (arith, number-is x, early n (reading-numbers file n r) (omega (arith, number-is x)) .1))
       forth (nine p r b x) y = absurd (omega (arith, number-is x))
       forth (ten p r b a x) y = (p, r, true-could p r b, asks-not p question .0 a)
       forth (eleven p r b a l x) y = absurd (omega (arith, number-is x))
@@ -205,7 +211,7 @@ module _ (file question : List ℕ) (room : ℕ) (t : Told) (e : t ≡ told (rea
   )
     where
       forth : Came file question room t → t .number ≡ 11 → (p : Policy) × (reading file ≡ rules p) × StartCould p × AsksSomething p question × RowsTooFew p room
-      forth (unread n r x) y = absurd (omega (arith, number-is x, reading-numbers file n r .1))
+      forth (unread n r x) y = absurd (omega (arith, number-is x, early n (reading-numbers file n r) (omega (arith, number-is x)) .1))
       forth (nine p r b x) y = absurd (omega (arith, number-is x))
       forth (ten p r b a x) y = absurd (omega (arith, number-is x))
       forth (eleven p r b a l x) y = (p, r, true-could p r b, asks-is p question .0 a, few-is p room .1 l)

@@ -1,4 +1,4 @@
--- The claims of specs/Claims. In order: the computed verdict and runs; demand 3; the numbers; what is accepted.
+-- The claims of specs/Claims. In order: the computed verdict and runs; demand 3; the numbers; what is accepted; list numbers.
 use mathlib.Core.Path.{_≡_, refl, sym, ap, _∙_, subst}
 use mathlib.Core.Bool.{Bool, true, false, cond}
 use mathlib.Core.Logic.{_⊎_, _↔_}
@@ -10,12 +10,15 @@ use Rattle.policy.specs.Policy.{Policy}
 use Rattle.rules.specs.Answers.{reading}
 use Rattle.rules.proofs.Theorems.{bytes-again, rules-again}
 use Rattle.lists.specs.Sound.{Sound}
+use Rattle.runs.specs.Model.{Model}
 use Rattle.runs.specs.Grant.{Leak}
 use Rattle.runs.proofs.Theorems.{no-step-is-no-leak}
 use Rattle.verdict.specs.Verdict.{leaks}
 use Rattle.verdict.proofs.Theorems.{verdict-is-computed}
 use Rattle.allowed.specs.Allowed.{modelOf}
+use Rattle.allowed.proofs.Theorems.{list-numbers-do-not-matter}
 use Rattle.cells.specs.Leak.{IsLeak}
+use Rattle.steps.specs.Step.{stepIn}
 use Rattle.steps.proofs.Files.{file-sound}
 use Rattle.steps.proofs.Theorems.{step-is-the-table, files-are-bytes}
 use Rattle.starting.specs.Start.{beginning}
@@ -25,10 +28,11 @@ use Rattle.replay.proofs.Asked.{of-asked, of-parts}
 use Rattle.analyser.specs.Told.{noVerdict, safeVerdict, leakVerdict, Told, refused}
 use Rattle.analyser.specs.Answer.{sessionValues, itemValues, startsBrought, decided, told}
 use Rattle.analyser.specs.Never.{Never, AsksSomething}
-use Rattle.analyser.specs.Claims.{Demand3, SafeIsNever, FileNumbersComeFirst, NineIsExact, TenIsExact, ElevenIsExact, AcceptedIsJudged}
+use Rattle.analyser.specs.Claims.{Demand3, SafeIsNever, FileNumbersComeFirst, NineIsExact, TenIsExact, ElevenIsExact, AcceptedIsJudged, VerdictsMeanWhatTheyDid}
 use Rattle.analyser.proofs.Widths.{beginning-below}
 use Rattle.analyser.proofs.Asked.{asks-something, asked-who, asked-which}
 use Rattle.analyser.proofs.Decides.{refused-none, rules-same}
+use Rattle.analyser.proofs.Unlisted.{started-unlisted, replayed-unlisted, told-unlisted, never-unlisted, needed-unlisted}
 use Rattle.analyser.proofs.Starts.{brought-of, starts-could}
 use Rattle.analyser.proofs.Numbers.{Came, unread, nine, ten, eleven, judged, came, asks-is, decided-two, is-of-file, is-either, is-empty, is-nine, is-ten, is-eleven, is-decided, is-judged}
 
@@ -143,3 +147,16 @@ accepted-is-judged = record {
       let x = step-is-the-table (modelOf p) (files-are-bytes file p r) s t c row .carried in
       (λ e. let (z, room, d) = x .0 e in (z, d, room), λ (z, d, room). x .1 (z, room, d));
 }
+
+-- list numbers
+
+pub verdicts-mean-what-they-did : VerdictsMeanWhatTheyDid
+verdicts-mean-what-they-did p =
+    record {
+      starts = started-unlisted p;
+      steps = λ s row. ap (λ (m : Model). stepIn m s row) (list-numbers-do-not-matter p);
+      replays = replayed-unlisted p;
+      answers = told-unlisted p;
+      never = never-unlisted p;
+      needed = needed-unlisted p;
+    }

@@ -40,7 +40,7 @@ decided p question =
       values = values (modelOf p) (beginning p) n k (whichOf q);
     }
 
--- the answer: 1 to 8, 9, 10, 11, then the verdict; `room` is how many rows are lent
+-- the answer: the file's number, 9, 10, 11, then the verdict; `room` is how many rows are lent
 unfoldable pub told : Answer → List ℕ → ℕ → Told
 told (refusal n) question room = refused n
 told (rules p) question room =

@@ -9,24 +9,25 @@ use lib.ListN.{length, take}
 use Rattle.format.specs.File.{bytes}
 use Rattle.policy.specs.Policy.{Policy}
 use Rattle.rules.specs.Answers.{reading, refusal, rules, writing}
-use Rattle.rules.specs.Claims.{Bytes}
+use Rattle.rules.specs.Claims.{Bytes, FileNumber}
 use Rattle.runs.specs.State.{State}
 use Rattle.runs.specs.Step.{Carried}
 use Rattle.runs.specs.Grant.{Who, Which}
 use Rattle.allowed.specs.Allowed.{modelOf}
+use Rattle.allowed.specs.Claims.{unlistedPolicy}
 use Rattle.cells.specs.Row.{partsOf, rowStep}
 use Rattle.cells.specs.Leak.{IsLeak}
 use Rattle.live.specs.Lent.{Lent}
 use mathlib.Core.Option.{none}
 use Rattle.steps.specs.Step.{stepIn}
 use Rattle.steps.specs.Codes.{Codes, Room}
-use Rattle.starting.specs.Start.{beginning}
+use Rattle.starting.specs.Start.{started, beginning}
 use Rattle.starting.specs.Claims.{StartIsExact}
 use Rattle.replay.specs.Asked.{Asked}
 use Rattle.replay.specs.Replay.{replayed}
 use Rattle.replay.specs.Claims.{Enough}
 use Rattle.analyser.specs.Told.{noVerdict, safeVerdict, leakVerdict, Told}
-use Rattle.analyser.specs.Answer.{told}
+use Rattle.analyser.specs.Answer.{rowsNeeded, told}
 use Rattle.analyser.specs.Never.{Never, StartCould, StartCouldNot, AsksSomething, RowsEnough, RowsTooFew}
 use Rattle.analyser.specs.Means.{Means}
 
@@ -55,10 +56,10 @@ abbrev pub SafeIsNever : Type 0
 SafeIsNever = (file question : List ℕ) (room : ℕ) (p : Policy) → reading file ≡ rules p → told (reading file) question room .verdict ≡ safeVerdict
     → (who : Who) (which : Which) (permission : ℕ) → Asked p question who which permission → Never p who which permission
 
--- [01:When a number is given instead, "The counts and rows are then 0 and no slice changes"; table, 1 to 8]: a number or a verdict
+-- [01:When a number is given instead, "The counts and rows are then 0 and no slice changes"; table, 1 to 8; 02:T-01]: a number or a verdict
 pub record NumberOrVerdict (file question before after : List ℕ) (t : Told) (n : ℕ) : Type 0 where
-  -- 1 to 8 exactly where reading gives that number
-  pub file-number : (k : ℕ) → 1 ≤ k → k ≤ 8 → (t .number ≡ k) ↔ (reading file ≡ refusal k)
+  -- a file's number exactly where reading gives that number
+  pub file-number : (k : ℕ) → FileNumber k → (t .number ≡ k) ↔ (reading file ≡ refusal k)
   -- no number exactly where there is a verdict
   pub either : (t .number ≡ 0) ↔ (t .verdict ≡ noVerdict → ⊥)
   -- where there is none, counts and rows are 0 and the lent rows are as they were
@@ -94,3 +95,22 @@ pub record AcceptedIsJudged : Type 0 where
   pub step : (file : List ℕ) (p : Policy) → reading file ≡ rules p → (s : Lent) (t : State) → Codes (modelOf p) s t → (row : ℕ)
       → (stepIn (modelOf p) s row .refusal ≡ none)
       ↔ ((partsOf row .spare ≡ 0) × ((after : State) × Carried (modelOf p) t (rowStep row) after) × Room s (rowStep row))
+
+-- two policies do the same
+pub record Alike (p q : Policy) : Type 0 where
+  -- starting leaves the same cells and gives the same number
+  pub starts : (sessions items : List ℕ) → started (rules p) sessions items ≡ started (rules q) sessions items
+  -- a row does the same to any lent cells
+  pub steps : (s : Lent) (row : ℕ) → stepIn (modelOf p) s row ≡ stepIn (modelOf q) s row
+  -- a replay answers and leaves the same
+  pub replays : (question rows sessions items : List ℕ) → replayed (rules p) question rows sessions items ≡ replayed (rules q) question rows sessions items
+  -- every question gets the same number, verdict and counts
+  pub answers : (question : List ℕ) (room : ℕ) → told (rules p) question room ≡ told (rules q) question room
+  -- the same can never be granted
+  pub never : (who : Who) (which : Which) (permission : ℕ) → Never p who which permission ↔ Never q who which permission
+  -- as many rows are needed
+  pub needed : rowsNeeded p ≡ rowsNeeded q
+
+-- [02:T-01, "Verdicts mean what they did"]: rules do what the same rules do with every attribute of list 0
+abbrev pub VerdictsMeanWhatTheyDid : Type 0
+VerdictsMeanWhatTheyDid = (p : Policy) → Alike (unlistedPolicy p) p

@@ -124,8 +124,8 @@ fn decide(rules: Rules, users: [Found; 16], q: Question, rows: &mut [u64], basis
     }
 }
 
-// Answers a question of a file: refused by the first of 1 to 8, 9, 10, 11, and then counts and rows are 0; safe exactly when no run of any length
-// grants what is asked; or a leak, whose rows fill the front of `rows`. Unless it is a leak `rows` is as it was.
+// Answers a question of a file: refused by the first of the file's number, 9, 10, 11, and then counts and rows are 0; safe exactly when no run
+// of any length grants what is asked; or a leak, whose rows fill the front of `rows`. Unless it is a leak `rows` is as it was.
 pub fn analyse(file: &[u8], question: &[u8], rows: &mut [u64]) -> Answer
     ensures { λ r. ⌜ Means (now (file .entry)) (now (question .entry)) (now (rows .entry)) (now (rows .exit)) (toldOf (r .verdict) (r .pairs) (r .values)) (r .rows) ⌝ }
 {

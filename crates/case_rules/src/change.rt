@@ -3,7 +3,7 @@ use policy::Class;
 use policy::Classes;
 use policy::Rules;
 
-// The class with its count, a kind or a size changed.
+// The class with its count, a kind, a size or a list number changed.
 fn class_changed(class: Class, what: usize, k: usize, v: u8) -> Class {
     let mut c = class;
     if what == 0 {
@@ -11,10 +11,16 @@ fn class_changed(class: Class, what: usize, k: usize, v: u8) -> Class {
         return c;
     }
     if k < 8 {
-        if what == 1 {
-            c.kinds[k] = v;
-        } else {
-            c.sizes[k] = v;
+        match what {
+            1 => {
+                c.kinds[k] = v;
+            }
+            2 => {
+                c.sizes[k] = v;
+            }
+            _ => {
+                c.lists[k] = v;
+            }
         }
     }
     c
@@ -114,11 +120,15 @@ fn formulas_changed(rules: Rules, part: usize, k: usize, v: u32) -> Rules {
 pub(super) fn changed(rules: Rules, part: usize, k: usize, value: usize) -> Rules {
     let v = (value % 4294967296) as u32;
     let b = (value % 256) as u8;
+    let mut r = rules;
+    let classes = r.classes;
+    if 19 <= part {
+        r.classes = classes_changed(classes, part - 19, 3, k, b);
+        return r;
+    }
     if 17 <= part {
         return formulas_changed(rules, part, k, v);
     }
-    let mut r = rules;
-    let classes = r.classes;
     if part <= 2 {
         r.classes = classes_changed(classes, part, 0, 0, b);
         return r;

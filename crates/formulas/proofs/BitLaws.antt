@@ -10,14 +10,14 @@ use Rattle.policy.specs.Policy.{bitsFor}
 use Rattle.policy.proofs.Laws.{fewest-least}
 
 -- an atomic value takes no more than 8 bits
-pub few-atomic : (kind size : ℕ) → kind ≡ 0 → size ≤ 255 → bitsFor record { kind = kind; size = size } ≤ 8
+pub few-atomic : (kind size list : ℕ) → kind ≡ 0 → size ≤ 255 → bitsFor record { kind = kind; size = size; list = list } ≤ 8
 unfolding bitsFor
-few-atomic kind size e h = simp (eq-eqb kind 0 e) (fewest-least size 8 (omega arith))
+few-atomic kind size list e h = simp (eq-eqb kind 0 e) (fewest-least size 8 (omega arith))
 
 -- that of a set takes as many as its size
-pub bits-set : (kind size : ℕ) → (kind ≡ 0 → ⊥) → bitsFor record { kind = kind; size = size } ≡ size
+pub bits-set : (kind size list : ℕ) → (kind ≡ 0 → ⊥) → bitsFor record { kind = kind; size = size; list = list } ≡ size
 unfolding bitsFor
-bits-set kind size n = simp (ne-eqb kind 0 n)
+bits-set kind size list n = simp (ne-eqb kind 0 n)
 
 -- a byte has nothing above its 8 bits
 pub byte-low : (v bits : ℕ) → v ≤ 255 → v % 2 ^ min bits 8 ≡ v % 2 ^ bits

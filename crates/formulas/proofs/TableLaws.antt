@@ -15,7 +15,7 @@ use lib.Pow.{shr-shr}
 use lib.Seq.{getD-set-same, getD-set-other, ext-getD, drop-cons}
 use Rattle.bits.specs.Packed.{tab}
 use Rattle.bits.proofs.Packed.{length-tab, getD-tab}
-use Rattle.policy.specs.Policy.{Attr, fewestFrom, fewestBits, bitsFor, width}
+use Rattle.policy.specs.Policy.{Attr, noAttr, fewestFrom, fewestBits, bitsFor, width}
 use Rattle.policy.specs.Nodes.{holderOf, placeOf, ofHolder}
 use Rattle.policy.specs.Rules.{attrAt, attrsOf, listsOf}
 use Rattle.policy.specs.declared.Class.{Class}
@@ -125,22 +125,26 @@ module _ (part : ℕ → ℕ → ℕ) where
 
 -- attributes
 
-no-bits : bitsFor record { kind = 0; size = 0 } ≡ 0
-unfolding bitsFor fewestBits fewestFrom
+no-bits : bitsFor noAttr ≡ 0
+unfolding noAttr bitsFor fewestBits fewestFrom
 no-bits = refl
 
 -- an attribute that is not there takes no bits
-pub none-bits : (l : List Attr) (k : ℕ) → attrOf l k ≡ record { kind = 0; size = 0 } → bitsFor (attrOf l k) ≡ 0
+pub none-bits : (l : List Attr) (k : ℕ) → attrOf l k ≡ noAttr → bitsFor (attrOf l k) ≡ 0
 none-bits l k e = ap bitsFor e ∙ no-bits
 
-pub none-part : (l : List Attr) (v k : ℕ) → attrOf l k ≡ record { kind = 0; size = 0 } → partOf l k v ≡ 0
+pub none-part : (l : List Attr) (v k : ℕ) → attrOf l k ≡ noAttr → partOf l k v ≡ 0
 unfolding partOf
 none-part l v k e =
     ap (λ (z : ℕ). v / 2 ^ width (drop (suc k) l) % 2 ^ z) (none-bits l k e) ∙ omega arith
 
+pub none-size : (l : List Attr) (k : ℕ) → attrOf l k ≡ noAttr → attrOf l k .size ≡ 0
+unfolding noAttr
+none-size l k e = ap (λ (a : Attr). a .size) e
+
 pub attr-at : (c : Class) (k : ℕ) → k < c .count → attrOf (attrsOf c) k ≡ attrAt c k
 unfolding attrOf
-attr-at c k h = attrs-at c k record { kind = 0; size = 0 } h
+attr-at c k h = attrs-at c k noAttr h
 
 -- no attribute is later than the last
 pub later-none : (c : Class) → width (drop (c .count) (attrsOf c)) ≡ 0
@@ -151,23 +155,25 @@ later-none c = ap width (drop-of-length-le (attrsOf c) {i = c .count} (omega (ar
 pub later-more : (c : Class) (k : ℕ) → k < c .count → width (drop k (attrsOf c)) ≡ bitsFor (attrAt c k) + width (drop (k + 1) (attrsOf c))
 unfolding width
 later-more c k h =
-    ap width (drop-cons (attrsOf c) k record { kind = 0; size = 0 } (omega (arith, attrs-length c)))
-    ∙ ap (λ (a : Attr). bitsFor a + width (drop (suc k) (attrsOf c))) (attrs-at c k record { kind = 0; size = 0 } h)
+    ap width (drop-cons (attrsOf c) k noAttr (omega (arith, attrs-length c)))
+    ∙ ap (λ (a : Attr). bitsFor a + width (drop (suc k) (attrsOf c))) (attrs-at c k noAttr h)
     ∙ ap (λ (n : ℕ). bitsFor (attrAt c k) + width (drop n (attrsOf c))) (sym (add-one k))
 
 -- a class has as many attributes as it counts, and no more than there is room for
-pub none-past : (c : Class) (k : ℕ) → length (c .kinds) ≤ 8 → length (c .sizes) ≤ 8 → min (c .count) 8 ≤ k → attrOf (attrsOf c) k ≡ record { kind = 0; size = 0 }
-unfolding attrOf attrAt
-none-past c k r s h = go (decLt k (c .count))
+pub none-past : (c : Class) (k : ℕ) → length (c .kinds) ≤ 8 → length (c .sizes) ≤ 8 → length (c .lists) ≤ 8 → min (c .count) 8 ≤ k → attrOf (attrsOf c) k ≡ noAttr
+unfolding attrOf attrAt noAttr
+none-past c k r s t h = go (decLt k (c .count))
   where
-    go : Dec (k < c .count) → attrOf (attrsOf c) k ≡ record { kind = 0; size = 0 }
+    go : Dec (k < c .count) → attrOf (attrsOf c) k ≡ noAttr
     go (yes l) =
-        attr-at c k l ∙ ap (λ (z : ℕ). record { kind = z; size = getD (c .sizes) k 0 }) (List·getD-eq-default (c .kinds) 0 (omega arith))
-        ∙ ap (λ (z : ℕ). record { kind = 0; size = z }) (List·getD-eq-default (c .sizes) 0 (omega arith))
-    go (no l) = List·getD-eq-default (attrsOf c) record { kind = 0; size = 0 } (omega (arith, attrs-length c))
+        attr-at c k l
+        ∙ ap (λ (z : ℕ). record { kind = z; size = getD (c .sizes) k 0; list = getD (c .lists) k 0 }) (List·getD-eq-default (c .kinds) 0 (omega arith))
+        ∙ ap (λ (z : ℕ). record { kind = 0; size = z; list = getD (c .lists) k 0 }) (List·getD-eq-default (c .sizes) 0 (omega arith))
+        ∙ ap (λ (z : ℕ). record { kind = 0; size = 0; list = z }) (List·getD-eq-default (c .lists) 0 (omega arith))
+    go (no l) = List·getD-eq-default (attrsOf c) noAttr (omega (arith, attrs-length c))
 
 -- those that are not there have no width
-pub later-past : (c : Class) (k : ℕ) → ((p : ℕ) → k ≤ p → attrOf (attrsOf c) p ≡ record { kind = 0; size = 0 }) → width (drop k (attrsOf c)) ≡ 0
+pub later-past : (c : Class) (k : ℕ) → ((p : ℕ) → k ≤ p → attrOf (attrsOf c) p ≡ noAttr) → width (drop k (attrsOf c)) ≡ 0
 unfolding width
 later-past c k none = go (decLt k (c .count))
   where

@@ -6,13 +6,13 @@ use mathlib.Core.List.{List}
 use Prim.Native.Nat.{ℕ, suc, _/_, _%_, _^_, min}
 use lib.Dec.{ltb, eqb}
 use lib.ListN.{getD, drop}
-use Rattle.policy.specs.Policy.{Attr, Lists, bitsFor, width}
+use Rattle.policy.specs.Policy.{Attr, noAttr, Lists, bitsFor, width}
 use Rattle.policy.specs.Nodes.{holderOf, placeOf, ofHolder}
 use Rattle.formulas.specs.declared.Holders.{Holders}
 
 -- attribute k of a list
 unfoldable pub attrOf : List Attr → ℕ → Attr
-attrOf l k = getD l k record { kind = 0; size = 0 }
+attrOf l k = getD l k noAttr
 
 -- the value of attribute k in the packed value v: what stands left of the later attributes, cut to its own bits
 unfoldable pub partOf : List Attr → ℕ → ℕ → ℕ

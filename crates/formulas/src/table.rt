@@ -2,7 +2,7 @@
 // five of which have attributes, the sixth the constants, and the last two nothing.
 ghost use mathlib.Core.Path.{_≡_};
 ghost use mathlib.Core.Bool.{cond};
-ghost use Prim.Native.Nat.{suc, _+_, _*_, _/_, _%_, _^_, _≤_, _<_, min};
+ghost use Prim.Native.Nat.{ℕ, suc, _+_, _*_, _/_, _%_, _^_, _≤_, _<_, min};
 ghost use lib.Dec.{eqb};
 ghost use lib.ListN.{length, replicate, drop};
 ghost use Rattle.bits.specs.Packed.{tab};
@@ -16,9 +16,9 @@ use policy::Classes;
 use policy::shape::bits_for;
 use policy::shape::byte_at;
 
-// The bits of one value of an attribute, at most 8.
+// The bits of one value of an attribute, whatever its list, at most 8.
 fn bits_of(kind: u8, size: u8) -> u8
-    ensures { λ r. ⌜ r ≡ min (bitsFor record { kind = kind; size = size }) 8 ⌝ }
+    ensures { λ r. ⌜ ((n : ℕ) → r ≡ min (bitsFor record { kind = kind; size = size; list = n }) 8) ⌝ }
 {
     if kind == 0 {
         bits_for(kind, size)

@@ -8,7 +8,7 @@ use analyser::Verdict;
 use live::number_of;
 
 // Replays the rows of a leak from the file's start: 0 where each is carried out and the last is a grant that fits the question, or the first of
-// 1 to 8, 10, 15, the number of the first row that is refused, and 17. The cells hold what ran: up to 10 and 15 they are as they were.
+// the file's number, 10, 15, the number of the first row that is refused, and 17. The cells hold what ran: up to 10 and 15 they are as they were.
 pub fn replay_leak(
     file: &[u8],
     question: &[u8],
@@ -25,8 +25,8 @@ pub fn replay_leak(
 }
 
 // Answers a question of a file: 0 with the verdict (1 safe, 2 leak), how many pairs of user and session value can be open, how many values the
-// asked item can have, and how many rows the leak has, which then fill the front of `rows`, the rest as it was; or the first of 1 to 8, 9, 10 and 11,
-// and then all four are 0, the verdict too: none. Unless it is a leak `rows` is as it was.
+// asked item can have, and how many rows the leak has, which then fill the front of `rows`, the rest as it was; or the first of the
+// file's number, 9, 10 and 11, and then all four are 0, the verdict too: none. Unless it is a leak `rows` is as it was.
 pub fn answer(
     file: &[u8],
     question: &[u8],

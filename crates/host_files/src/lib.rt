@@ -6,7 +6,7 @@ ghost use Rattle.host_files.specs.Numbers.{numberOf, rewritten, writeNum
 use rules::Reading;
 use rules::Written;
 
-// Reads a rule file: 0 where it is accepted, or the first number 1 to 8.
+// Reads a rule file: 0 where it is accepted, or the file's number.
 pub fn read(file: &[u8]) -> u32
     ensures { λ r. ⌜ r ≡ numberOf (reading (now (file .entry))) ⌝ }
 {
@@ -18,7 +18,7 @@ pub fn read(file: &[u8]) -> u32
     }
 }
 
-// Reads a rule file and writes its rules back to the front of `out`: 0 and the length, or the first number 1 to 8, or 11 where `out` is
+// Reads a rule file and writes its rules back to the front of `out`: 0 and the length, or the file's number, or 11 where `out` is
 // too short; then the length is 0 and `out` is as it was.
 pub fn write_back(file: &[u8], out: &mut [u8], size: &mut usize) -> u32
     ensures { λ r. ⌜ r ≡ writeNumber (rewritten (reading (now (file .entry)))) (length (now (out .entry))) ⌝ }

@@ -21,7 +21,7 @@ hostStarted a s =
     let r = started a (s .sessions) (s .items) in
     record { refusal = r .refusal; lent = orKept (r .refusal) s (r .lent) }
 
--- a step: 1 to 8 of the file before 12 to 16
+-- a step: the file's number before 12 to 16
 unfoldable pub hostStepped : Answer → Lent → ℕ → After
 hostStepped (refusal n) s row = refused n s
 hostStepped (rules p) s row = stepIn (modelOf p) s row
@@ -33,7 +33,7 @@ hostRows a s done (row ∷ rows) =
     let x = hostStepped a s row in
     further (x .refusal) (x .lent) done (λ k. hostRows a (x .lent) k rows)
 
--- many rows: 1 to 8 of the file, with rows or without; then row by row
+-- many rows: the file's number, with rows or without; then row by row
 unfoldable pub hostSteps : Answer → Lent → List ℕ → Ran
 hostSteps (refusal n) s rows = record { refusal = some n; lent = s; count = 0 }
 hostSteps (rules p) s rows = hostRows (rules p) s 0 rows

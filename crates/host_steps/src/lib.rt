@@ -9,7 +9,7 @@ use live::number_of;
 use replay::rows::steps_at;
 use rules::Reading;
 
-// Starts a live state: 0 and the starting cells and next numbers written, or the first number 1 to 8, or 15; then nothing changes.
+// Starts a live state: 0 and the starting cells and next numbers written, or the file's number, or 15; then nothing changes.
 pub fn start(
     file: &[u8],
     sessions: &mut [u64],
@@ -33,7 +33,7 @@ pub fn start(
     }
 }
 
-// Carries out a step on a live state: 0, or the first number 1 to 8 of the file, or 12 to 16 of the row; then nothing changes.
+// Carries out a step on a live state: 0, or the file's number, or 12 to 16 of the row; then nothing changes.
 pub fn step(
     file: &[u8],
     sessions: &mut [u64],
@@ -65,7 +65,7 @@ pub fn step(
 }
 
 // Carries out rows one after another, each as `step` would, with one reading of the file, up to the first that gives a number: 0, or
-// the file's first number 1 to 8, with rows or without, or 12 to 16 of that row. `done` is how many were carried out; the cells and the next
+// the file's number, with rows or without, or 12 to 16 of that row. `done` is how many were carried out; the cells and the next
 // numbers are as those rows left them.
 pub fn step_all(
     file: &[u8],

@@ -13,7 +13,7 @@ use Rattle.format.proofs.Fault.{first-none, unless-none}
 use Rattle.format.proofs.Law.{judged-field, judged-pair, judged-rows}
 use Rattle.bits.proofs.Set.{both-true}
 use Rattle.policy.specs.Policy.{Head, Attr, Lists, Session, width}
-use Rattle.policy.specs.File.{count, headFormat, classFormat, listsFormat, valueFormat, sessionFormat, policyFormat}
+use Rattle.policy.specs.File.{count, headFormat, noSizes, sizesAfter, classFormat, listsFormat, valueFormat, sessionFormat, policyFormat}
 use Rattle.lists.specs.Sound.{startingSession, JudgedIsSound}
 use Rattle.lists.proofs.Laws.{judged-listed}
 
@@ -42,9 +42,9 @@ count-below : (w lo hi x : ℕ) → count w lo hi .judge x ≡ none → x < hi +
 unfolding count
 count-below w lo hi x j = within-below lo (hi + 1) x (judged-field w (within lo (hi + 1)) 2 x j .1) .1
 
-class-width : (n : ℕ) (l : List Attr) → classFormat n .judge l ≡ none → width l ≤ 8
+class-width : (sizes : List ℕ) (n : ℕ) (l : List Attr) → classFormat sizes n .judge l ≡ none → width l ≤ 8
 unfolding classFormat
-class-width n l j = leb-true (width l) 8 (judged-check _ (λ l. leb (width l) 8) 5 l j)
+class-width sizes n l j = leb-true (width l) 8 (judged-check _ (λ l. leb (width l) 8) 5 l j)
 
 session-fits : (users : ℕ) (l : List Attr) (t : Session) → sessionFormat users l .judge t ≡ none → (t .user < users) × (valueFormat l .judge (t .value) ≡ none)
 unfolding sessionFormat via
@@ -84,9 +84,9 @@ record Narrow (c : Lists) : Type 0 where
 lists-narrow : (h : Head) (c : Lists) → listsFormat h .judge c ≡ none → Narrow c
 unfolding listsFormat via
 lists-narrow h c j =
-    let (_, j₁) = judged-pair (classFormat (h .userAttrs)) _ (c .ofUser) _ j in
-    let (s, i) = judged-pair (classFormat (h .sessionAttrs)) _ (c .ofSession) (c .ofItem) j₁ in
-    record { session = class-width (h .sessionAttrs) (c .ofSession) s; item = class-width (h .itemAttrs) (c .ofItem) i }
+    let (_, j₁) = judged-pair (classFormat noSizes (h .userAttrs)) _ (c .ofUser) _ j in
+    let (s, i) = judged-pair (classFormat (sizesAfter noSizes (c .ofUser)) (h .sessionAttrs)) _ (c .ofSession) (c .ofItem) j₁ in
+    record { session = class-width _ (h .sessionAttrs) (c .ofSession) s; item = class-width _ (h .itemAttrs) (c .ofItem) i }
 
 pub judged-is-sound : JudgedIsSound
 unfolding policyFormat via startingSession

@@ -1,6 +1,6 @@
 -- Laws of values in the lists. In order: a test that begins at 0; the attributes of a class from a place on: their width, and values in
--- their lists; what being listed says, and what is listed.
-use mathlib.Core.Path.{_≡_, sym, ap, _∙_}
+-- their lists; list numbers do not matter; what being listed says, and what is listed.
+use mathlib.Core.Path.{_≡_, refl, sym, ap, ap₂, _∙_}
 use mathlib.Core.Bool.{Bool, true, false, _&&_}
 use mathlib.Core.List.{List, [], _∷_}
 use mathlib.Core.Option.{none}
@@ -15,11 +15,11 @@ use lib.Seq.{drop-cons}
 use Rattle.bits.proofs.Set.{both-true}
 use Rattle.format.specs.Format.{within, field, via}
 use Rattle.format.proofs.Law.{judged-field, judged-pair}
-use Rattle.policy.specs.Policy.{Attr, bitsFor, codes, width}
+use Rattle.policy.specs.Policy.{Attr, noAttr, unlisted, bitsFor, codes, width}
 use Rattle.policy.specs.File.{valueFormat}
 use Rattle.policy.specs.Rules.{attrAt, attrsOf}
 use Rattle.policy.specs.declared.Class.{Class}
-use Rattle.policy.proofs.Laws.{attrs-length, attrs-at, value-lt}
+use Rattle.policy.proofs.Laws.{withoutLists, attrs-length, attrs-at, attrs-unlisted, codes-unlisted, width-unlisted, value-lt}
 use Rattle.lists.specs.Lists.{inLists, listed}
 
 pub within-is : (n x : ℕ) → within 0 n x ≡ ltb x n
@@ -32,9 +32,8 @@ module _ (c : Class) where
   -- the first of them
   later-first : (k : ℕ) → k < c .count → drop k (attrsOf c) ≡ attrAt c k ∷ drop (k + 1) (attrsOf c)
   later-first k h =
-      let d : Attr = record { kind = 0; size = 0 } in
-      drop-cons (attrsOf c) k d (omega (arith, attrs-length c))
-      ∙ ap (λ (a : Attr). a ∷ drop (suc k) (attrsOf c)) (attrs-at c k d h)
+      drop-cons (attrsOf c) k noAttr (omega (arith, attrs-length c))
+      ∙ ap (λ (a : Attr). a ∷ drop (suc k) (attrsOf c)) (attrs-at c k noAttr h)
       ∙ ap (λ (n : ℕ). attrAt c k ∷ drop n (attrsOf c)) (sym (add-one k))
 
   pub later-width : (k : ℕ) → k < c .count → width (drop k (attrsOf c)) ≡ bitsFor (attrAt c k) + width (drop (k + 1) (attrsOf c))
@@ -70,6 +69,25 @@ module _ (c : Class) where
     -- it has none
     pub in-not : within 0 (codes (attrAt c k)) (v / 2 ^ left) ≡ false → inLists (drop k (attrsOf c)) v ≡ false
     in-not e = in-next ∙ ap (λ (t : Bool). t && inLists (drop (k + 1) (attrsOf c)) (v % 2 ^ left)) e
+
+-- list numbers do not matter
+
+pub in-unlisted : (l : List Attr) (v : ℕ) → inLists (unlisted l) v ≡ inLists l v
+unfolding inLists unlisted
+in-unlisted [] v = refl
+in-unlisted (a ∷ l) v =
+    ap (λ (w : ℕ). ltb (v / 2 ^ w) (codes record { kind = a .kind; size = a .size; list = 0 }) && inLists (unlisted l) (v % 2 ^ w)) (width-unlisted l)
+    ∙ ap₂ _&&_ (ap (ltb (v / 2 ^ width l)) (codes-unlisted a)) (in-unlisted l (v % 2 ^ width l))
+
+pub in-any : (c : Class) (v : ℕ) → inLists (attrsOf (withoutLists c)) v ≡ inLists (attrsOf c) v
+in-any c v = ap (λ (l : List Attr). inLists l v) (attrs-unlisted c) ∙ in-unlisted (attrsOf c) v
+
+pub listed-unlisted : (l : List Attr) (v : ℕ) → listed (unlisted l) v ≡ listed l v
+unfolding listed
+listed-unlisted l v = ap (λ (t : Bool). ltb v 256 && t) (in-unlisted l v)
+
+pub listed-any : (c : Class) (v : ℕ) → listed (attrsOf (withoutLists c)) v ≡ listed (attrsOf c) v
+listed-any c v = ap (λ (l : List Attr). listed l v) (attrs-unlisted c) ∙ listed-unlisted (attrsOf c) v
 
 -- what is listed
 

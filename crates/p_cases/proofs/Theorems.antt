@@ -9,9 +9,9 @@ use Rattle.bits.specs.Packed.{tab}
 use Rattle.bits.specs.Set.{sizeOf, inSet, allBelow, subsetOf, properOf}
 use Rattle.format.specs.Format.{unless, first, tested, andThen, taken, within, field, check, rowsRead, rows, pair, via, zeros}
 use Rattle.format.specs.File.{ended, readFile}
-use Rattle.policy.specs.Policy.{Policy, fewestFrom, fewestBits, bitsFor, codes, width}
-use Rattle.policy.specs.Nodes.{opOf, firstOf, secondOf, holderOf, placeOf, mayUse, ofHolder, names, atomic, nodeOk}
-use Rattle.policy.specs.File.{count, headFormat, largest, attrFormat, classFormat, listsFormat, valueFormat, sessionFormat, formulaFormat, policyFormat}
+use Rattle.policy.specs.Policy.{noAttr, Policy, fewestFrom, fewestBits, bitsFor, codes, width}
+use Rattle.policy.specs.Nodes.{opOf, firstOf, secondOf, holderOf, placeOf, mayUse, ofHolder, named, names, atomic, nodeOk, sameList, listsAgree}
+use Rattle.policy.specs.File.{count, headFormat, largest, noSizes, sizesAfter, sizeFits, attrFormat, classFormat, listsFormat, valueFormat, sessionFormat, nodeFormat, formulaFormat, policyFormat}
 use Rattle.rules.specs.Answers.{rules, answered, reading}
 use Rattle.formulas.specs.Value.{attrOf, partOf, heldBy, operand, sizeOfOperand}
 use Rattle.formulas.specs.Meaning.{compared, nodeSays, said, holds}
@@ -44,7 +44,7 @@ use Rattle.p_cases.specs.Cases.{counterFile, firstStep, row, shownRows, 
 counter-computed : (told (reading counterFile) ofUser1 9 .verdict ≡ safeVerdict) × (length (startRules (reading counterFile) .users) ≡ 2)
     × (startRules (reading counterFile) .head .permissions ≡ 1)
     × (told (reading counterFile) ofUser1 8192 ≡ record { number = 0; verdict = safeVerdict; pairs = 3; values = 2 })
-unfolding counterFile ofUser1 bitAt numberOf numberAt fieldAt tab sizeOf inSet allBelow subsetOf properOf unless first tested andThen taken within field check rowsRead rows pair via zeros ended readFile fewestFrom fewestBits bitsFor codes width opOf firstOf secondOf holderOf placeOf mayUse ofHolder names atomic nodeOk count headFormat largest attrFormat classFormat listsFormat valueFormat sessionFormat formulaFormat policyFormat answered reading attrOf partOf heldBy operand sizeOfOperand compared nodeSays said holds inLists listed someBelow countBelow opensWith changesTo makesWith modifiesTo accesses sessionOf itemOf begin tableFrom tableOf inTable round rounds closure reached reachedFrom helpers allBrought pairs canMake canModify made itemFrom ofOne whoCan whichCan leaks values says opening changing making modifying accessing userValue modelOf beginning questionOf whoOf whichOf whoAmong whichAmong partsAsk asks sessionValues itemValues rowsNeeded refusedAnswer startsBrought decided told startRules
+unfolding counterFile ofUser1 bitAt numberOf numberAt fieldAt tab sizeOf inSet allBelow subsetOf properOf unless first tested andThen taken within field check rowsRead rows pair via zeros ended readFile fewestFrom fewestBits bitsFor codes width opOf firstOf secondOf holderOf placeOf mayUse ofHolder noAttr named names atomic nodeOk sameList listsAgree count headFormat largest noSizes sizesAfter sizeFits attrFormat classFormat listsFormat valueFormat sessionFormat nodeFormat formulaFormat policyFormat answered reading attrOf partOf heldBy operand sizeOfOperand compared nodeSays said holds inLists listed someBelow countBelow opensWith changesTo makesWith modifiesTo accesses sessionOf itemOf begin tableFrom tableOf inTable round rounds closure reached reachedFrom helpers allBrought pairs canMake canModify made itemFrom ofOne whoCan whichCan leaks values says opening changing making modifying accessing userValue modelOf beginning questionOf whoOf whichOf whoAmong whichAmong partsAsk asks sessionValues itemValues rowsNeeded refusedAnswer startsBrought decided told startRules
 counter-computed = (refl, refl, refl, refl)
 
 counter-rules : (p : Policy) → reading counterFile ≡ rules p → startRules (reading counterFile) ≡ p
@@ -91,5 +91,5 @@ unfolding ofUser1 ProgramMeans
 counter-prints before after t n e m = counter-printed before after t n e m
 
 pub paper-cases : PaperCases
-unfolding table allHold counterFile hostNumber firstStep row shownRows shorterRows ofUser0 ofUser1 isTold replayNumber widest bitAt numberOf numberAt fieldAt tab sizeOf inSet allBelow subsetOf properOf unless first tested andThen taken within field check rowsRead rows pair via zeros ended readFile fewestFrom fewestBits bitsFor codes width opOf firstOf secondOf holderOf placeOf mayUse ofHolder names atomic nodeOk count headFormat largest attrFormat classFormat listsFormat valueFormat sessionFormat formulaFormat policyFormat answered reading attrOf partOf heldBy operand sizeOfOperand compared nodeSays said holds inLists listed someBelow countBelow opensWith changesTo makesWith modifiesTo accesses sessionOf itemOf begin tableFrom tableOf inTable round rounds closure reached reachedFrom helpers allBrought pairs canMake canModify made itemFrom ofOne whoCan whichCan leaks values says opening changing making modifying accessing userValue modelOf partsOf bitsOf stepOf cellOf openCell closedCell itemCell sessionIn sessionAt itemIn itemAt refused done testedStep ofSession ofItem numbers allGiven left sessionNow itemNow withSession withItem sessionGiven itemGiven openingStep makingStep modifyingStep accessingStep byKind stepIn over sessionCells itemCells nothingGiven started beginning questionOf whoOf whichOf whoAmong whichAmong partsAsk asks ranAll further rowsIn isOf whoFits whichFits stepFits lastFits judged played replayed sessionValues itemValues rowsNeeded refusedAnswer startsBrought decided told
+unfolding table allHold counterFile hostNumber firstStep row shownRows shorterRows ofUser0 ofUser1 isTold replayNumber widest bitAt numberOf numberAt fieldAt tab sizeOf inSet allBelow subsetOf properOf unless first tested andThen taken within field check rowsRead rows pair via zeros ended readFile fewestFrom fewestBits bitsFor codes width opOf firstOf secondOf holderOf placeOf mayUse ofHolder noAttr named names atomic nodeOk sameList listsAgree count headFormat largest noSizes sizesAfter sizeFits attrFormat classFormat listsFormat valueFormat sessionFormat nodeFormat formulaFormat policyFormat answered reading attrOf partOf heldBy operand sizeOfOperand compared nodeSays said holds inLists listed someBelow countBelow opensWith changesTo makesWith modifiesTo accesses sessionOf itemOf begin tableFrom tableOf inTable round rounds closure reached reachedFrom helpers allBrought pairs canMake canModify made itemFrom ofOne whoCan whichCan leaks values says opening changing making modifying accessing userValue modelOf partsOf bitsOf stepOf cellOf openCell closedCell itemCell sessionIn sessionAt itemIn itemAt refused done testedStep ofSession ofItem numbers allGiven left sessionNow itemNow withSession withItem sessionGiven itemGiven openingStep makingStep modifyingStep accessingStep byKind stepIn over sessionCells itemCells nothingGiven started beginning questionOf whoOf whichOf whoAmong whichAmong partsAsk asks ranAll further rowsIn isOf whoFits whichFits stepFits lastFits judged played replayed sessionValues itemValues rowsNeeded refusedAnswer startsBrought decided told
 paper-cases = (refl, counter-never)

@@ -67,7 +67,7 @@ unfoldable pub widest : Policy
 widest =
     record {
       head = record { userAttrs = 0; sessionAttrs = 1; itemAttrs = 1; users = 0; sessions = 0; items = 0; permissions = 0 };
-      lists = record { ofUser = []; ofSession = record { kind = 1; size = 8 } ∷ []; ofItem = record { kind = 1; size = 8 } ∷ [] };
+      lists = record { ofUser = []; ofSession = record { kind = 1; size = 8; list = 0 } ∷ []; ofItem = record { kind = 1; size = 8; list = 0 } ∷ [] };
       users = [];
       sessions = [];
       items = [];
@@ -88,7 +88,7 @@ table =
     -- P5: widths 1 and 1 need 9 rows; 8 give 11
     ∷ (5, isTold (told (reading counterFile) ofUser0 9) 0 leakVerdict 3 2 && isTold (told (reading counterFile) ofUser0 8) 11 noVerdict 0 0)
     -- P6: atomic size 1 takes 0 bits, 16 takes 4
-    ∷ (6, eqb (bitsFor record { kind = 0; size = 1 }) 0 && eqb (bitsFor record { kind = 0; size = 16 }) 4)
+    ∷ (6, eqb (bitsFor record { kind = 0; size = 1; list = 0 }) 0 && eqb (bitsFor record { kind = 0; size = 16; list = 0 }) 4)
     -- P7: {} is a proper subset of {0}; {0} is not of {0}; sets of size 1, {0} is the number 1
     ∷ (7, properOf 1 0 1 1 && not (properOf 1 1 1 1))
     -- P8: user 1 opening with {0}: 16; user 0 may

@@ -22,19 +22,19 @@ use Rattle.planes.specs.declared.operand.Operand.{Operand}
 
 module _ (kind size own x : ℕ) where
   -- every code of a set is one
-  pub code-set : (kind ≡ 0 → ⊥) → own ≡ bitsFor record { kind = kind; size = size } → ltb (x % 2 ^ own) (codes record { kind = kind; size = size }) ≡ true
+  pub code-set : (kind ≡ 0 → ⊥) → own ≡ bitsFor record { kind = kind; size = size; list = 0 } → ltb (x % 2 ^ own) (codes record { kind = kind; size = size; list = 0 }) ≡ true
   unfolding bitsFor codes
   code-set n e =
       let d : own ≡ size = e ∙ simp (ne-eqb kind 0 n) in
       simp (ne-eqb kind 0 n) (lt-ltb (x % 2 ^ own) (2 ^ size) (subst (λ (w : ℕ). x % 2 ^ own < 2 ^ w) d (mod-lt x (pow-pos own))))
 
   -- a number below size is a code of an atomic value
-  pub code-atomic : kind ≡ 0 → ltb (x % 2 ^ own) (codes record { kind = kind; size = size }) ≡ ltb (x % 2 ^ own) size
+  pub code-atomic : kind ≡ 0 → ltb (x % 2 ^ own) (codes record { kind = kind; size = size; list = 0 }) ≡ ltb (x % 2 ^ own) size
   unfolding codes
   code-atomic e = simp (eq-eqb kind 0 e)
 
   -- every code of so many bits is one, where size is their number
-  pub code-full : kind ≡ 0 → size ≡ 2 ^ own → ltb (x % 2 ^ own) (codes record { kind = kind; size = size }) ≡ true
+  pub code-full : kind ≡ 0 → size ≡ 2 ^ own → ltb (x % 2 ^ own) (codes record { kind = kind; size = size; list = 0 }) ≡ true
   code-full e d = code-atomic e ∙ lt-ltb (x % 2 ^ own) size (subst (λ (n : ℕ). x % 2 ^ own < n) (sym d) (mod-lt x (pow-pos own)))
 
 -- a byte has nothing above its 8 bits

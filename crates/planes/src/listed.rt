@@ -16,11 +16,12 @@ use policy::Class;
 use policy::shape::bits_for;
 use policy::shape::byte_at;
 
-// Where the bits of an attribute's value, which stand left of so many others, are a code of it.
+// Where the bits of an attribute's value, which stand left of so many others, are a code of it. The number of its list makes no difference: 0
+// stands for any.
 fn coded(planes: &[u64], kind: u8, size: u8, right: usize, own: u8) -> u64
     requires { ⌜ length (now planes) ≡ 8 ⌝ }
-    requires { ⌜ own ≡ bitsFor record { kind = kind; size = size } ⌝ }
-    ensures { λ r. ⌜ Told (now (planes .entry)) (λ v. ltb (v / 2 ^ right % 2 ^ own) (codes record { kind = kind; size = size })) r ⌝ }
+    requires { ⌜ own ≡ bitsFor record { kind = kind; size = size; list = 0 } ⌝ }
+    ensures { λ r. ⌜ Told (now (planes .entry)) (λ v. ltb (v / 2 ^ right % 2 ^ own) (codes record { kind = kind; size = size; list = 0 })) r ⌝ }
 {
     if kind != 0 {
         return 0xFFFF_FFFF_FFFF_FFFF;

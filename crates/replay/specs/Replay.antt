@@ -1,4 +1,4 @@
--- What a replay answers and leaves [01:When a number is given instead, "replay adds 10, then starts the monitor, then takes the rows"]: 1 to 8 of
+-- What a replay answers and leaves [01:When a number is given instead, "replay adds 10, then starts the monitor, then takes the rows"]: the number of
 -- the file, 10, start's 15, the number of the first row that fails, and 17 unless the last row is a grant that fits the question. The cells hold
 -- what ran.
 -- Assumes nothing.

@@ -15,7 +15,7 @@ use rules::Reading;
 use rules::read_rules;
 use starting::start_with;
 
-// Replays rows from a file's start for a question: carried out, or the first of 1 to 8 of the file, 10, 15 where the starting cells don't fit,
+// Replays rows from a file's start for a question: carried out, or the first of the file's number, 10, 15 where the starting cells don't fit,
 // the number of the first row that is refused, and 17 unless the last row is a grant that fits the question. The cells hold what ran: up to
 // 10 and 15 they are as they were, and a row that is refused changes none.
 pub fn replay(

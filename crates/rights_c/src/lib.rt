@@ -8,7 +8,7 @@ ghost use Rattle.analyser.specs.Means.{Means};
 ghost use Rattle.host_files.specs.Numbers.{numberOf, rewritten, writeNumber, writeLength};
 ghost use Rattle.host_steps.specs.Steps.{hostStarted, hostStepped, hostSteps};
 
-// Reads a rule file: 0 where it is accepted, or the first number 1 to 8.
+// Reads a rule file: 0 where it is accepted, or the file's number.
 #[no_mangle]
 pub extern "C" fn rights_read(file: &[u8]) -> u32
     ensures { λ r. ⌜ r ≡ numberOf (reading (now (file .entry))) ⌝ }
@@ -16,7 +16,7 @@ pub extern "C" fn rights_read(file: &[u8]) -> u32
     host_files::read(file)
 }
 
-// Reads a rule file and writes its rules back to the front of `out`: 0 and the length, or the first number 1 to 8, or 11 where `out` is
+// Reads a rule file and writes its rules back to the front of `out`: 0 and the length, or the file's number, or 11 where `out` is
 // too short; then the length is 0 and `out` is as it was.
 #[no_mangle]
 pub extern "C" fn rights_write_back(file: &[u8], out: &mut [u8], size: &mut usize) -> u32
@@ -27,7 +27,7 @@ pub extern "C" fn rights_write_back(file: &[u8], out: &mut [u8], size: &mut usiz
     host_files::write_back(file, out, size)
 }
 
-// Starts a live state: 0 and the starting cells and next numbers written, or the first number 1 to 8, or 15; then nothing changes.
+// Starts a live state: 0 and the starting cells and next numbers written, or the file's number, or 15; then nothing changes.
 #[no_mangle]
 pub extern "C" fn rights_start(
     file: &[u8],
@@ -42,7 +42,7 @@ pub extern "C" fn rights_start(
     host_steps::start(file, sessions, items, session, item)
 }
 
-// Carries out a step on a live state: 0, or the first number 1 to 8 of the file, or 12 to 16 of the row; then nothing changes.
+// Carries out a step on a live state: 0, or the file's number, or 12 to 16 of the row; then nothing changes.
 #[no_mangle]
 pub extern "C" fn rights_step(
     file: &[u8],
@@ -59,7 +59,7 @@ pub extern "C" fn rights_step(
 }
 
 // Carries out rows one after another, each as `rights_step` would, with one reading of the file, up to the first that gives a number: 0, or
-// the file's first number 1 to 8, with rows or without, or 12 to 16 of that row. `done` is how many were carried out; the cells and the next
+// the file's number, with rows or without, or 12 to 16 of that row. `done` is how many were carried out; the cells and the next
 // numbers are as those rows left them.
 #[no_mangle]
 pub extern "C" fn rights_steps(
@@ -79,7 +79,7 @@ pub extern "C" fn rights_steps(
 }
 
 // Replays the rows of a leak from the file's start: 0 where each is carried out and the last is a grant that fits the question, or the first of
-// 1 to 8, 10, 15, the number of the first row that is refused, and 17. The cells hold what ran: up to 10 and 15 they are as they were.
+// the file's number, 10, 15, the number of the first row that is refused, and 17. The cells hold what ran: up to 10 and 15 they are as they were.
 #[no_mangle]
 pub extern "C" fn rights_replay(
     file: &[u8],
@@ -96,8 +96,8 @@ pub extern "C" fn rights_replay(
 }
 
 // Answers a question of a file: 0 with the verdict (1 safe, 2 leak), how many pairs of user and session value can be open, how many values the
-// asked item can have, and how many rows the leak has, which then fill the front of `rows`, the rest as it was; or the first of 1 to 8, 9, 10 and 11,
-// and then all four are 0, the verdict too: none. Unless it is a leak `rows` is as it was.
+// asked item can have, and how many rows the leak has, which then fill the front of `rows`, the rest as it was; or the first of the
+// file's number, 9, 10 and 11, and then all four are 0, the verdict too: none. Unless it is a leak `rows` is as it was.
 #[no_mangle]
 pub extern "C" fn rights_analyse(
     file: &[u8],

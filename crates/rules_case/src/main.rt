@@ -48,9 +48,9 @@ fn answer(bytes: &[u8]) {
 
 // Answers the next record; false at the end, also where what is left is no whole record.
 fn one() -> bool {
-    let mut bytes: [u8; 3269] = [0; 3269];
+    let mut bytes: [u8; 3293] = [0; 3293];
     let n = io::read_full(STDIN_FILENO, &mut bytes);
-    if n < 3269 {
+    if n < 3293 {
         return false;
     }
     answer(&bytes[..n]);

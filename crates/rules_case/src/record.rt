@@ -1,6 +1,7 @@
 // A record: the numbers of a `Rules`, one byte each, in the order of its fields, places that no count covers too. The user class (count, 8 kinds,
-// 8 sizes), the session class, the item class; users (count, 32 values); sessions (count, 32 users, 32 values); items (count, 32 values);
-// permissions; 12 lengths; 768 nodes of 4 bytes, least byte first. Then 2 bytes, least first: how many bytes are lent to the writer. 3,269 in all.
+// 8 sizes, 8 list numbers), the session class, the item class; users (count, 32 values); sessions (count, 32 users, 32 values); items (count, 32
+// values); permissions; 12 lengths; 768 nodes of 4 bytes, least byte first. Then 2 bytes, least first: how many bytes are lent to the writer. 3,293
+// in all.
 ghost use Prim.Native.Nat.{_≤_, _<_};
 use policy::Class;
 use policy::Classes;
@@ -70,6 +71,7 @@ fn class_at(s: &[u8], at: usize) -> Class
         count: byte(s, at),
         kinds: eight(s, at + 1),
         sizes: eight(s, at + 9),
+        lists: eight(s, at + 17),
     }
 }
 
@@ -86,22 +88,22 @@ fn values_at(s: &[u8], at: usize) -> Values
 pub(super) fn rules_of(s: &[u8]) -> Rules {
     let classes = Classes {
         user: class_at(s, 0),
-        session: class_at(s, 17),
-        item: class_at(s, 34),
+        session: class_at(s, 25),
+        item: class_at(s, 50),
     };
     let sessions = Sessions {
-        count: byte(s, 84),
-        users: thirty_two(s, 85),
-        values: thirty_two(s, 117),
+        count: byte(s, 108),
+        users: thirty_two(s, 109),
+        values: thirty_two(s, 141),
     };
     Rules {
         classes,
-        users: values_at(s, 51),
+        users: values_at(s, 75),
         sessions,
-        items: values_at(s, 149),
-        permissions: byte(s, 182),
-        lengths: twelve(s, 183),
-        nodes: words(s, 195),
+        items: values_at(s, 173),
+        permissions: byte(s, 206),
+        lengths: twelve(s, 207),
+        nodes: words(s, 219),
     }
 }
 
@@ -109,7 +111,7 @@ pub(super) fn rules_of(s: &[u8]) -> Rules {
 pub fn room_of(s: &[u8]) -> usize
     ensures { λ r. ⌜ r ≤ 4096 ⌝ }
 {
-    let n = byte(s, 3267) as usize + byte(s, 3268) as usize * 256;
+    let n = byte(s, 3291) as usize + byte(s, 3292) as usize * 256;
     if 4096 < n {
         return 4096;
     }

@@ -1,4 +1,4 @@
--- What starting does to the lent cells [01:Steps, "Starting writes the starting cells"; When a number is given instead]: 1 to 8 of the file,
+-- What starting does to the lent cells [01:Steps, "Starting writes the starting cells"; When a number is given instead]: the file's number,
 -- then 15 where the starting sessions or items outnumber the cells; a number leaves the cells as they were.
 -- Assumes nothing.
 use mathlib.Core.List.{List, [], _∷_, _++_, map}

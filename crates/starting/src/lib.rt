@@ -23,7 +23,7 @@ pub struct Started {
     pub rules: Rules,
 }
 
-// Starts: writes the cells of the file's starting sessions and items and no other, or gives the first number 1 to 8, then 15 where they
+// Starts: writes the cells of the file's starting sessions and items and no other, or gives the file's number, then 15 where they
 // outnumber the cells, and writes nothing.
 pub fn start(file: &[u8], sessions: &mut [u64], items: &mut [u64]) -> Started
     ensures { λ r. ⌜ leaves (r .outcome) (r .next) (now (sessions .exit)) (now (items .exit)) ≡ started (reading (now (file .entry))) (now (sessions .entry)) (now (items .entry)) ⌝ }
@@ -56,7 +56,7 @@ pub fn start(file: &[u8], sessions: &mut [u64], items: &mut [u64]) -> Started
     }
 }
 
-// Starts with rules that were read before: as `start`, without 1 to 8.
+// Starts with rules that were read before: as `start`, without the file's number.
 pub fn start_with(rules: Rules, sessions: &mut [u64], items: &mut [u64]) -> Stepped
     ensures { λ r. ⌜ leaves (r .outcome) (r .next) (now (sessions .exit)) (now (items .exit)) ≡ started (rulesOf (policyOf rules)) (now (sessions .entry)) (now (items .entry)) ⌝ }
 {

@@ -1,6 +1,7 @@
--- `lists::in_lists` meets its contract. The loop's invariant: v is in the lists when what is left of it is in those of the attributes from
--- k on, and left is the width of these. The measure is what is left of the count.
+-- `lists::in_lists` meets its contract. The loop's invariant: v is in the lists, whatever their numbers, when what is left of it is in
+-- those of the attributes from k on, and left is the width of these. The measure is what is left of the count.
 use mathlib.Core.Path.{_≡_, refl, sym, ap, _∙_}
+use mathlib.Core.List.{[]}
 use Prim.Native.Nat.{_+_, _-_, _/_, _^_, _≤_}
 use native.Mathlib.Omega.{arith}
 use borrow.Author.Needs.{needs}
@@ -9,15 +10,16 @@ use lib.ListN.{drop}
 use Rattle.format.specs.Format.{within}
 use Rattle.policy.specs.Policy.{bitsFor, codes, width}
 use Rattle.policy.specs.Rules.{attrAt, attrsOf}
+use Rattle.policy.proofs.Laws.{withoutLists, width-any}
 use Rattle.lists.specs.Lists.{inLists}
-use Rattle.lists.proofs.Laws.{later-width, in-none, in-rest, in-not}
+use Rattle.lists.proofs.Laws.{later-width, in-none, in-rest, in-not, in-any}
 use Rattle.lists.proofs.in_lists.Statement.{statement}
 use Rattle.lists.proofs.in_lists.Tie as tie
 
 abbrev Inv-loop : tie.InvT-loop
 Inv-loop v kinds sizes left₀ rest₀ k₀ k-end left rest k =
-    (k ≤ k-end) × (k-end ≤ 255) × (left ≡ width (drop k (attrsOf record { count = k-end; kinds = kinds; sizes = sizes })))
-    × (inLists (attrsOf record { count = k-end; kinds = kinds; sizes = sizes }) v ≡ inLists (drop k (attrsOf record { count = k-end; kinds = kinds; sizes = sizes })) rest)
+    let l = attrsOf record { count = k-end; kinds = kinds; sizes = sizes; lists = [] } in
+    (k ≤ k-end) × (k-end ≤ 255) × (left ≡ width (drop k l)) × (inLists l v ≡ inLists (drop k l) rest)
 
 abbrev μ-loop : tie.MeasureT-loop
 μ-loop v kinds sizes left₀ rest₀ k₀ k-end left rest k = k-end - k
@@ -29,7 +31,7 @@ cast-k-end : tie.Need-cast-k-end Inv-loop μ-loop
 cast-k-end c = search needs
 
 loop-holds : tie.Need-loop-holds Inv-loop μ-loop
-loop-holds c = (search needs, search needs, c .before .class-width .ensures .0, refl)
+loop-holds c = (search needs, search needs, c .before .class-width .ensures .0 ∙ sym (width-any (c .before .before .before .before .args .class)), refl)
 
 slice-aggregate-byte-at : tie.Need-slice-aggregate-byte-at Inv-loop μ-loop
 slice-aggregate-byte-at c = search needs
@@ -50,22 +52,22 @@ cast-left : tie.Need-cast-left Inv-loop μ-loop
 cast-left c = search needs
 
 -- the bits of the attribute at hand, and of those after it
-bits-at : (c : tie.After-bits-for Inv-loop μ-loop) → c .bits-for .result ≡ bitsFor (attrAt (c .before .before .before .before .before .before .before .before .before .before .before .args .class) (c .before .before .before .before .before .before .loop .k))
+bits-at : (c : tie.After-bits-for Inv-loop μ-loop) → c .bits-for .result ≡ bitsFor (attrAt (withoutLists (c .before .before .before .before .before .before .before .before .before .before .before .args .class)) (c .before .before .before .before .before .before .loop .k))
 unfolding attrAt
-bits-at c = cc
+bits-at c = let f = c .bits-for .ensures 0 in cc
 
 left-at : (c : tie.After-bits-for Inv-loop μ-loop) →
-    c .before .before .before .before .before .before .loop .left ≡ c .bits-for .result + width (drop (c .before .before .before .before .before .before .loop .k + 1) (attrsOf (c .before .before .before .before .before .before .before .before .before .before .before .args .class)))
+    c .before .before .before .before .before .before .loop .left ≡ c .bits-for .result + width (drop (c .before .before .before .before .before .before .loop .k + 1) (attrsOf (withoutLists (c .before .before .before .before .before .before .before .before .before .before .before .args .class))))
 left-at c =
     let t = c .before .before .before .before .before .before .loop in
-    omega (arith, bits-at c, later-width (c .before .before .before .before .before .before .before .before .before .before .before .args .class) (t .k) (omega arith))
+    omega (arith, bits-at c, later-width (withoutLists (c .before .before .before .before .before .before .before .before .before .before .before .args .class)) (t .k) (omega arith))
 
 -- whether its code stands for a value
 code-at : (c : tie.After-code-ok Inv-loop μ-loop) →
     c .code-ok .result
-    ≡ within 0 (codes (attrAt (c .before .before .before .before .before .before .before .before .before .before .before .before .before .args .class) (c .before .before .before .before .before .before .before .before .loop .k))) (c .before .before .before .before .before .before .before .before .loop .rest / 2 ^ (c .before .before .before .before .before .before .before .before .loop .left - c .before .before .bits-for .result))
+    ≡ within 0 (codes (attrAt (withoutLists (c .before .before .before .before .before .before .before .before .before .before .before .before .before .args .class)) (c .before .before .before .before .before .before .before .before .loop .k))) (c .before .before .before .before .before .before .before .before .loop .rest / 2 ^ (c .before .before .before .before .before .before .before .before .loop .left - c .before .before .bits-for .result))
 unfolding attrAt
-code-at c = cc
+code-at c = let f = c .code-ok .ensures 0 in cc
 
 sub-left : tie.Need-sub-left Inv-loop μ-loop
 sub-left c = omega (arith, left-at c)
@@ -80,11 +82,13 @@ returns : tie.Need-returns Inv-loop μ-loop
 returns c =
     let t = c .before .before .before .before .before .before .before .before .before .loop in
     let a = c .before .before .before .before .before .before .before .before .before .before .before .before .before .before .args in
+    let d = withoutLists (a .class) in
     let b = c .before .before .before .bits-for .result in
     sym
     (t .inv .3
-    ∙ in-not (a .class) (t .k) (t .rest) (t .left - b) (omega arith) (omega (arith, left-at (c .before .before .before)))
+    ∙ in-not d (t .k) (t .rest) (t .left - b) (omega arith) (omega (arith, left-at (c .before .before .before)))
     (sym (code-at (c .before)) ∙ not-true (c .before .code-ok .result) (c .if1 .taken)))
+    ∙ in-any (a .class) (a .v)
 
 low-bits-requires : tie.Need-low-bits-requires Inv-loop μ-loop
 low-bits-requires c κs = search needs
@@ -99,22 +103,23 @@ loop-again : tie.Need-loop-again Inv-loop μ-loop
 loop-again c =
     let t = c .before .before .before .before .before .before .before .before .before .before .loop in
     let a = c .before .before .before .before .before .before .before .before .before .before .before .before .before .before .before .args in
+    let d = withoutLists (a .class) in
     let b = c .before .before .before .before .bits-for .result in
-    let w : t .left - b ≡ width (drop (t .k + 1) (attrsOf (a .class))) = omega (arith, left-at (c .before .before .before .before)) in (
+    let w : t .left - b ≡ width (drop (t .k + 1) (attrsOf d)) = omega (arith, left-at (c .before .before .before .before)) in (
       search needs,
       search needs,
       w,
       t .inv .3
-          ∙ in-rest (a .class) (t .k) (t .rest) (t .left - b) (omega arith) w
+          ∙ in-rest d (t .k) (t .rest) (t .left - b) (omega arith) w
           (sym (code-at (c .before .before)) ∙ not-false (c .before .before .code-ok .result) (c .before .if1 .left))
-          ∙ ap (inLists (drop (t .k + 1) (attrsOf (a .class)))) (sym (c .low-bits .ensures)),
+          ∙ ap (inLists (drop (t .k + 1) (attrsOf d))) (sym (c .low-bits .ensures)),
     )
 
 returns-2 : tie.Need-returns-2 Inv-loop μ-loop
 returns-2 c =
     let t = c .before .loop in
     let a = c .before .before .before .before .before .before .args in
-    sym (t .inv .3 ∙ in-none (a .class) (t .k) (t .rest) (omega arith))
+    sym (t .inv .3 ∙ in-none (withoutLists (a .class)) (t .k) (t .rest) (omega arith)) ∙ in-any (a .class) (a .v)
 
 pub in-lists-spec : {M : Type 1} → statement M
 in-lists-spec =

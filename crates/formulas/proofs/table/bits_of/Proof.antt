@@ -14,14 +14,14 @@ byte-of-requires : tie.Need-byte-of-requires
 byte-of-requires c κs = search needs
 
 returns : tie.Need-returns
-returns c =
+returns c n =
     let a = c .before .before .args in
-    omega (arith, c .bits-for .ensures, few-atomic (a .kind) (a .size) (c .before .if1 .taken) (omega arith))
+    omega (arith, c .bits-for .ensures n, few-atomic (a .kind) (a .size) n (c .before .if1 .taken) (omega arith))
 
 returns-2 : tie.Need-returns-2
-returns-2 c =
+returns-2 c n =
     let a = c .before .before .args in
-    c .byte-of .ensures ∙ ap (λ (n : ℕ). min n 8) (sym (bits-set (a .kind) (a .size) (c .before .if1 .left)))
+    c .byte-of .ensures ∙ ap (λ (b : ℕ). min b 8) (sym (bits-set (a .kind) (a .size) n (c .before .if1 .left)))
 
 pub bits-of-spec : {M : Type 1} → statement M
 bits-of-spec = tie.close (tie.spec bits-for-requires byte-of-requires returns returns-2)

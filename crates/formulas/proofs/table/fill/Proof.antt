@@ -7,13 +7,13 @@ use Prim.Native.Nat.{ℕ, _+_, _*_, _-_, _/_, _^_, _<_, _≤_, min}
 use native.Mathlib.Omega.{arith}
 use borrow.Author.Tests.{eq-eqb, ne-eqb}
 use lib.Dec.{eqb}
-use lib.ListN.{length, drop}
+use lib.ListN.{length, getD, drop}
 use lib.Pow.{shr-le}
-use Rattle.policy.specs.Policy.{Attr, bitsFor, width}
+use Rattle.policy.specs.Policy.{Attr, noAttr, bitsFor, width}
 use Rattle.policy.specs.Rules.{attrAt, attrsOf}
 use Rattle.formulas.specs.Value.{attrOf, partOf}
 use Rattle.formulas.specs.Parts.{Filling}
-use Rattle.formulas.proofs.TableLaws.{fill-start, fill-next, fill-end, none-part, none-past, later-past, part-at, left-at, size-at}
+use Rattle.formulas.proofs.TableLaws.{fill-start, fill-next, fill-end, none-part, none-size, none-past, later-past, part-at, left-at, size-at}
 use borrow.Author.Needs.{needs}
 use Rattle.formulas.proofs.table.fill.Statement.{statement}
 use Rattle.formulas.proofs.table.fill.Tie as tie
@@ -50,8 +50,9 @@ loop-holds c =
     let l = attrsOf (a .t5) in
     let r : length (a .t5 .kinds) ≡ 8 = search needs in
     let s : length (a .t5 .sizes) ≡ 8 = search needs in
+    let n : length (a .t5 .lists) ≡ 8 = search needs in
     let e : c .byte-of .result ≡ min (a .t5 .count) 8 = c .byte-of .ensures in
-    let none : (p : ℕ) → c .byte-of .result ≤ p → attrOf l p ≡ record { kind = 0; size = 0 } = λ p m. none-past (a .t5) p (omega (arith, r)) (omega (arith, s)) (omega (arith, e)) in
+    let none : (p : ℕ) → c .byte-of .result ≤ p → attrOf l p ≡ noAttr = λ p m. none-past (a .t5) p (omega (arith, r)) (omega (arith, s)) (omega (arith, n)) (omega (arith, e)) in
     let zero : width (drop (c .byte-of .result) l) ≡ 0 = later-past (a .t5) (c .byte-of .result) none in (
       search needs,
       search needs,
@@ -61,7 +62,7 @@ loop-holds c =
       sym (ap (λ (z : ℕ). a .v / 2 ^ z) zero ∙ omega arith),
       sym (ap (λ (z : ℕ). a .w / 2 ^ z) zero ∙ omega arith),
       fill-start (values-by l (a .h) (a .v) (a .w)) (a .g) (a .h) (a .values .now) (c .byte-of .result) (λ i p m n. none-part l (cond (eqb i (a .h)) (a .w) (a .v)) p (none p m)),
-      fill-start (sizes-by l) (a .g) (a .h) (a .sizes .now) (c .byte-of .result) (λ i p m n. ap (λ (z : Attr). z .size) (none p m)),
+      fill-start (sizes-by l) (a .g) (a .h) (a .sizes .now) (c .byte-of .result) (λ i p m n. none-size l p (none p m)),
     )
 
 sub-k : tie.Need-sub-k Inv-loop μ-loop
@@ -77,10 +78,10 @@ bits-of-requires : tie.Need-bits-of-requires Inv-loop μ-loop
 bits-of-requires c κs = search needs
 
 last-requires : tie.Need-last-requires Inv-loop μ-loop
-last-requires c κs = search needs
+last-requires c κs = (search needs, omega (arith, c .before .bits-of .ensures 0))
 
 last-requires-2 : tie.Need-last-requires-2 Inv-loop μ-loop
-last-requires-2 c κs = search needs
+last-requires-2 c κs = (search needs, omega (arith, c .before .before .bits-of .ensures 0))
 
 place-requires : tie.Need-place-requires Inv-loop μ-loop
 place-requires c κs = search needs
@@ -92,13 +93,13 @@ cast-x : tie.Need-cast-x Inv-loop μ-loop
 cast-x c = search needs
 
 shr-x : tie.Need-shr-x Inv-loop μ-loop
-shr-x c = search needs
+shr-x c = omega (arith, c .before .before .before .before .before .before .before .before .before .before .bits-of .ensures 0)
 
 cast-y : tie.Need-cast-y Inv-loop μ-loop
 cast-y c = search needs
 
 shr-y : tie.Need-shr-y Inv-loop μ-loop
-shr-y c = search needs
+shr-y c = omega (arith, c .before .before .before .before .before .before .before .before .before .before .bits-of .ensures 0)
 
 loop-less : tie.Need-loop-less Inv-loop μ-loop
 loop-less c = search needs
@@ -117,7 +118,7 @@ loop-again c =
     let l = attrsOf (a .t5) in
     let e : t .k ≡ k + 1 = omega arith in
     let low : k < a .t5 .count = omega arith in
-    let bits : b .bits-of .result ≡ min (bitsFor (attrAt (a .t5) k)) 8 = cc in
+    let bits : b .bits-of .result ≡ min (bitsFor (attrAt (a .t5) k)) 8 = let f = b .bits-of .ensures (getD (a .t5 .lists) k 0) in cc in
     let left-x : t .x ≡ a .v / 2 ^ width (drop (k + 1) l) = t .inv .5 ∙ ap (λ (n : ℕ). a .v / 2 ^ width (drop n l)) e in
     let left-y : t .y ≡ a .w / 2 ^ width (drop (k + 1) l) = t .inv .6 ∙ ap (λ (n : ℕ). a .w / 2 ^ width (drop n l)) e in
     let size : q .byte-at .result ≡ attrOf l k .size = q .byte-at .ensures ∙ size-at (a .t5) k low in (

@@ -4,8 +4,8 @@ use mathlib.Core.Path.{_≡_, sym, ap, _∙_}
 use mathlib.Core.List.{List}
 use Prim.Native.Nat.{ℕ, suc, _+_, _*_, _-_, _<_, _≤_, min}
 use native.Mathlib.Omega.{arith}
-use lib.ListN.{length, drop}
-use Rattle.policy.specs.Policy.{Attr, bitsFor, width}
+use lib.ListN.{length, getD, drop}
+use Rattle.policy.specs.Policy.{Attr, noAttr, bitsFor, width}
 use Rattle.policy.specs.Rules.{attrAt, attrsOf}
 use Rattle.formulas.specs.Value.{attrOf}
 use Rattle.formulas.specs.Parts.{Filling}
@@ -45,8 +45,9 @@ loop-holds c =
     let l = attrsOf (a .t4) in
     let r : length (a .t4 .kinds) ≡ 8 = search needs in
     let s : length (a .t4 .sizes) ≡ 8 = search needs in
+    let n : length (a .t4 .lists) ≡ 8 = search needs in
     let e : c .byte-of .result ≡ min (a .t4 .count) 8 = c .byte-of .ensures in
-    let none : (p : ℕ) → c .byte-of .result ≤ p → attrOf l p ≡ record { kind = 0; size = 0 } = λ p m. none-past (a .t4) p (omega (arith, r)) (omega (arith, s)) (omega (arith, e)) in (
+    let none : (p : ℕ) → c .byte-of .result ≤ p → attrOf l p ≡ noAttr = λ p m. none-past (a .t4) p (omega (arith, r)) (omega (arith, s)) (omega (arith, n)) (omega (arith, e)) in (
       search needs,
       search needs,
       search needs,
@@ -100,7 +101,7 @@ loop-again c =
     let l = attrsOf (a .t4) in
     let e : t .k ≡ k + 1 = omega arith in
     let low : k < a .t4 .count = omega arith in
-    let own : q .bits-for .result ≡ bitsFor (attrAt (a .t4) k) = cc in
+    let own : q .bits-for .result ≡ bitsFor (attrAt (a .t4) k) = let f = q .bits-for .ensures (getD (a .t4 .lists) k 0) in cc in
     let later : t .left ≡ width (drop (k + 1) l) = t .inv .4 ∙ ap (λ (n : ℕ). width (drop n l)) e in
     let right : b .byte-of2 .result ≡ right-by l (a .h) k = b .byte-of2 .ensures ∙ right-at l k (t .left) later in
     let bits : q .bits-for .result ≡ own-by l (a .h) k = own ∙ ap bitsFor (sym (attr-at (a .t4) k low)) in (

@@ -13,7 +13,7 @@ use crate::{generate, spoil, steps};
 /// How often each number, verdict and replayed leak was seen.
 #[derive(Default)]
 pub struct Tally {
-    pub numbers: [u64; 18],
+    pub numbers: [u64; 20],
     pub safe: u64,
     pub leak: u64,
     pub replayed: u64,

@@ -14,14 +14,34 @@ const POLICIES: [&str; 3] = [
     include_str!("../../examples/rbac.rules.txt"),
 ];
 
-/// The attributes of a class, of at most `most` bits.
-fn attributes(random: &Random, most: u32) -> Vec<Attribute> {
+/// The numbers and sizes of the lists that a file may use; a third of the files have list 0 throughout.
+fn lists(random: &Random) -> Vec<(u32, u32)> {
+    let mut lists = Vec::new();
+    if random.once_in(3) {
+        return lists;
+    }
+    for _ in 0..random.from_to(1, 3) {
+        let number = *random.pick(&[1, 31, random.from_to(1, 31) as u32]);
+        let size = *random.pick(&[2, random.from_to(1, 4), random.from_to(1, 8), random.from_to(1, 16)]) as u32;
+        if lists.iter().all(|(other, _)| *other != number) {
+            lists.push((number, size));
+        }
+    }
+    lists
+}
+
+/// The attributes of a class, of at most `most` bits; most of them use one of the lists, if there are any.
+fn attributes(random: &Random, most: u32, lists: &[(u32, u32)]) -> Vec<Attribute> {
     let mut list = Vec::new();
     let mut left = most;
     for _ in 0..random.below(5) {
         let set = random.once_in(2);
         let size = if set { random.from_to(1, 8) } else { random.from_to(1, 16) } as u32;
-        let attribute = Attribute { set, size };
+        let mut attribute = Attribute { set, size, list: 0 };
+        if !lists.is_empty() && !random.once_in(4) {
+            let (number, size) = *random.pick(lists);
+            attribute = Attribute { set: set && size <= 8, size, list: number };
+        }
         if attribute.width() <= left {
             left -= attribute.width();
             list.push(attribute);
@@ -34,7 +54,7 @@ fn attributes(random: &Random, most: u32) -> Vec<Attribute> {
 pub fn attributes_of(raw: &RawRules, class: usize) -> Vec<Attribute> {
     let class = &raw.classes[class];
     (0..class.count as usize)
-        .map(|k| Attribute { set: class.kinds[k] == 1, size: u32::from(class.sizes[k]) })
+        .map(|k| Attribute { set: class.kinds[k] == 1, size: u32::from(class.sizes[k]), list: u32::from(class.lists[k]) })
         .collect()
 }
 
@@ -48,48 +68,67 @@ fn value(random: &Random, attributes: &[Attribute]) -> u8 {
     }
 }
 
-/// The operands of a kind that a formula may look at, constants too for atomics.
-fn operands(raw: &RawRules, formula: usize, set: bool) -> Vec<u32> {
+/// An operand and its attribute.
+#[derive(Clone, Copy)]
+pub struct Operand {
+    pub code: u32,
+    pub class: usize,
+    pub place: usize,
+    pub attribute: Attribute,
+}
+
+/// The attributes that a formula may look at.
+pub fn operands(raw: &RawRules, formula: usize) -> Vec<Operand> {
     let mut list = Vec::new();
     for &holder in holders_of(formula) {
-        if holder == 5 {
-            continue;
-        }
         let class = [0, 1, 1, 2, 2][holder as usize];
-        for (k, attribute) in attributes_of(raw, class).iter().enumerate() {
-            if attribute.set == set {
-                list.push(holder * 32 + k as u32);
-            }
+        for (place, attribute) in attributes_of(raw, class).into_iter().enumerate() {
+            list.push(Operand { code: holder * 32 + place as u32, class, place, attribute });
         }
     }
     list
 }
 
+/// An operand of a kind, its code and its list: an attribute of the list that is asked for, if one is, or a constant, which is atomic and of no list.
+fn side(random: &Random, operands: &[Operand], set: bool, list: Option<u32>) -> Option<(u32, Option<u32>)> {
+    let fits = |one: &&Operand| one.attribute.set == set && list.map_or(true, |list| one.attribute.list == list);
+    let fitting: Vec<&Operand> = operands.iter().filter(fits).collect();
+    if !set && (fitting.is_empty() || random.once_in(4)) {
+        return Some((160 + random.below(16) as u32, None));
+    }
+    let one = if fitting.is_empty() { None } else { Some(*random.pick(&fitting)) };
+    one.map(|one| (one.code, Some(one.attribute.list)))
+}
+
+/// A comparison by an operator whose sides are of one list, unless there is nothing to compare.
+fn comparison(random: &Random, operands: &[Operand], operator: u32) -> Option<(u32, u32)> {
+    let (b, list) = side(random, operands, operator >= 8, None)?;
+    let (a, _) = side(random, operands, operator >= 9, list)?;
+    Some((a, b))
+}
+
 /// A node that may stand at a place of a formula.
-fn node(random: &Random, atomics: &[u32], sets: &[u32], place: u64) -> u32 {
+fn node(random: &Random, operands: &[Operand], place: u64) -> u32 {
     let earlier = |random: &Random| random.below(place) as u32;
-    let atomic = |random: &Random| match atomics.is_empty() || random.once_in(4) {
-        true => 160 + random.below(16) as u32,
-        false => *random.pick(atomics),
-    };
     let operator = random.below(11) as u32;
-    let (a, b) = match operator {
-        2 if place > 0 => (earlier(random), 0),
-        3 | 4 if place > 0 => (earlier(random), earlier(random)),
-        5..=7 => (atomic(random), atomic(random)),
-        8 if !sets.is_empty() => (atomic(random), *random.pick(sets)),
-        9 | 10 if !sets.is_empty() => (*random.pick(sets), *random.pick(sets)),
-        _ => return random.below(2) as u32 * 65536,
+    let sides = match operator {
+        2 if place > 0 => Some((earlier(random), 0)),
+        3 | 4 if place > 0 => Some((earlier(random), earlier(random))),
+        5..=10 => comparison(random, operands, operator),
+        _ => None,
     };
-    operator * 65536 + a * 256 + b
+    match sides {
+        Some((a, b)) => operator * 65536 + a * 256 + b,
+        None => random.below(2) as u32 * 65536,
+    }
 }
 
 fn formula(random: &Random, raw: &mut RawRules, f: usize) {
-    let (atomics, sets) = (operands(raw, f, false), operands(raw, f, true));
+    let operands = operands(raw, f);
     let most = *random.pick(&[1, 2, 4, 8, 16, 64]);
     let length = random.from_to(1, most);
     for place in 0..length {
-        raw.nodes[f][place as usize] = node(random, &atomics, &sets, place);
+        raw.nodes[f][place as usize] = node(random, &operands, place);
     }
     raw.lengths[f] = length as u8;
 }
@@ -112,12 +151,14 @@ fn holders(random: &Random, raw: &mut RawRules) {
 /// Rules of no source; in half of them a session may be opened with any value, so that the starting ones could have been brought about.
 fn invented(random: &Random, most: u32) -> RawRules {
     let mut raw = RawRules::zero();
+    let lists = lists(random);
     for class in 0..3 {
-        let list = attributes(random, if class == 0 { 8 } else { most });
+        let list = attributes(random, if class == 0 { 8 } else { most }, &lists);
         raw.classes[class].count = list.len() as u8;
         for (k, attribute) in list.iter().enumerate() {
             raw.classes[class].kinds[k] = attribute.set as u8;
             raw.classes[class].sizes[k] = attribute.size as u8;
+            raw.classes[class].lists[k] = attribute.list as u8;
         }
     }
     let many = random.once_in(20);
@@ -136,7 +177,8 @@ fn invented(random: &Random, most: u32) -> RawRules {
     raw
 }
 
-/// A policy of the sources with other users and other starts.
+/// A policy of the sources with other users and other starts. Their attributes are compared with those of the same size only, so in half of them
+/// a list for each size is put in.
 fn sourced(random: &Random) -> RawRules {
     let file = assemble(random.pick::<&str>(&POLICIES)).expect("a policy under examples/");
     let mut raw = RawRules::of(&read(&file).expect("a policy under examples/"));
@@ -144,6 +186,14 @@ fn sourced(random: &Random) -> RawRules {
     raw.sessions.count = random.below(3) as u8;
     raw.items.count = random.below(6) as u8;
     holders(random, &mut raw);
+    if random.once_in(2) {
+        let more = random.below(16) as u8;
+        for class in &mut raw.classes {
+            for k in 0..class.count as usize {
+                class.lists[k] = class.sizes[k] + more;
+            }
+        }
+    }
     raw
 }
 

@@ -7,6 +7,7 @@ mod second;
 mod compare;
 mod generate;
 mod library;
+mod lists;
 mod random;
 mod spoil;
 mod steps;

@@ -16,6 +16,7 @@ fn record(raw: &RawRules, length: u16) -> Vec<u8> {
         bytes.push(class.count);
         bytes.extend(class.kinds);
         bytes.extend(class.sizes);
+        bytes.extend(class.lists);
     }
     bytes.push(raw.users.count);
     bytes.extend(raw.users.values);

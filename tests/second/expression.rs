@@ -144,6 +144,7 @@ impl<'a> Builder<'a> {
     fn comparison(&mut self, words: &mut Words) -> Result<u32, Bad> {
         let line = words.line();
         let left = self.side(words)?;
+        let sign = words.line();
         let operator = match words.peek() {
             Word::Mark("=") => 5,
             Word::Mark("<") => 6,
@@ -166,6 +167,9 @@ impl<'a> Builder<'a> {
         let right = self.side(words)?;
         let a = operand(line, &left, &right, operator >= 9)?;
         let b = operand(line, &right, &left, operator >= 8)?;
+        if !same_list(&left, &right) {
+            return Err((sign, "an attribute is compared with one of another list".to_string()));
+        }
         self.add(line, operator, a, b)
     }
 
@@ -209,6 +213,14 @@ fn holder(words: &mut Words) -> Result<Option<u32>, Bad> {
         return Ok(Some(HOLD_SESSION));
     }
     Ok(words.take_if("item").then_some(HOLD_ITEM))
+}
+
+/// Whether two sides can be compared: attributes only if they use the same declared list, or both none.
+fn same_list(left: &Side, right: &Side) -> bool {
+    match (left, right) {
+        (Side::Attribute { named: one, .. }, Side::Attribute { named: other, .. }) => one.list == other.list,
+        _ => true,
+    }
 }
 
 /// The operand of one side; a name is looked up in the list of the other side.

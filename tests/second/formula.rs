@@ -63,6 +63,38 @@ pub fn node_fits(attributes: &[Vec<Attribute>; 3], formula: usize, place: u32, n
     }
 }
 
+/// The list of an operand that fits; a constant has none.
+fn list_of(attributes: &[Vec<Attribute>; 3], operand: u32) -> Option<u32> {
+    let (holder, number) = (operand / 32, operand % 32);
+    if holder == HOLD_CONSTANT {
+        return None;
+    }
+    Some(attributes[class_of(holder)][number as usize].list)
+}
+
+/// Whether the lists of a node that may stand where it is agree: an attribute is only compared with one of the same
+/// list, 0 being like any other; constants are compared with all.
+pub fn lists_agree(attributes: &[Vec<Attribute>; 3], node: &Node) -> bool {
+    if !(5..=10).contains(&node.operator) {
+        return true;
+    }
+    match (list_of(attributes, node.a), list_of(attributes, node.b)) {
+        (Some(one), Some(other)) => one == other,
+        _ => true,
+    }
+}
+
+/// A node at its place, or its number: 8 first, then 19.
+pub fn judge_node(attributes: &[Vec<Attribute>; 3], formula: usize, place: u32, node: &Node) -> Result<(), u32> {
+    if !node_fits(attributes, formula, place, node) {
+        return Err(8);
+    }
+    if !lists_agree(attributes, node) {
+        return Err(19);
+    }
+    Ok(())
+}
+
 /// What stands behind each holder; holders that the formula may not use have nothing.
 struct Holders<'a>([&'a [Value]; 5]);
 

@@ -1,5 +1,6 @@
 //! Readable rule text, second part: what has been declared so far, and the declarations themselves.
 
+use super::lists::{used, List};
 use super::rules::{width, Attribute, RawRules};
 use super::value::{encode, Value};
 use super::words::{Bad, Word, Words};
@@ -16,22 +17,25 @@ const BEGINNINGS: [&str; 6] = ["expect", "list", "order", "amounts", "firm", "se
 /// The classes as people write them.
 pub const CLASSES: [&str; 3] = ["user", "session", "item"];
 
-/// An attribute, its name and the names of its list; a list given as a number has no names.
+/// An attribute, its name, the place of the declared list that it uses, if any, and the names of its list's values; a
+/// list given as a number has no names. The number of a declared list is known only once the whole text is.
 pub struct Named {
     pub name: String,
     pub attribute: Attribute,
-    pub list: Vec<String>,
+    pub list: Option<usize>,
+    pub values: Vec<String>,
 }
 
 impl Named {
     /// The number that a name has in the list.
     pub fn number_of(&self, name: &str) -> Option<u32> {
-        self.list.iter().position(|other| other == name).map(|place| place as u32)
+        self.values.iter().position(|other| other == name).map(|place| place as u32)
     }
 }
 
 /// What has been declared so far.
 pub struct Names {
+    pub lists: Vec<List>,
     pub attributes: [Vec<Named>; 3],
     pub users: Vec<String>,
     /// The starting sessions and items; unnamed ones are called by their number.
@@ -44,7 +48,7 @@ impl Names {
     pub fn none() -> Names {
         let attributes = [Vec::new(), Vec::new(), Vec::new()];
         let (users, sessions, items, permissions) = (Vec::new(), Vec::new(), Vec::new(), Vec::new());
-        Names { attributes, users, sessions, items, permissions }
+        Names { lists: Vec::new(), attributes, users, sessions, items, permissions }
     }
 
     fn plain(&self, class: usize) -> Vec<Attribute> {
@@ -52,8 +56,8 @@ impl Names {
     }
 }
 
-/// A new name for a list, at most so many.
-fn new_name(words: &mut Words, known: &[String], most: usize, what: &str) -> Result<String, Bad> {
+/// A new name beside the known ones, at most so many.
+pub fn new_name(words: &mut Words, known: &[String], most: usize, what: &str) -> Result<String, Bad> {
     let line = words.line();
     let name = words.name()?;
     if known.contains(&name) {
@@ -85,8 +89,8 @@ fn starting_name(words: &mut Words, known: &[String], class: usize) -> Result<St
     Ok(name)
 }
 
-/// The list of an attribute: a number of values, or their names in braces.
-fn list(words: &mut Words, most: u32) -> Result<(u32, Vec<String>), Bad> {
+/// The values of a list: how many there are, or their names in braces.
+pub fn values(words: &mut Words, most: u32) -> Result<(u32, Vec<String>), Bad> {
     let line = words.line();
     let mut names = Vec::new();
     let size = if let Word::Number(number) = *words.peek() {
@@ -124,12 +128,19 @@ pub fn attribute(words: &mut Words, names: &mut Names, raw: &mut RawRules, class
         words.expect("one")?;
     }
     words.expect("of")?;
-    let (size, list) = list(words, if set { 8 } else { 16 })?;
+    let most = if set { 8 } else { 16 };
+    let (list, (size, values)) = match words.peek_name() {
+        None => (None, values(words, most)?),
+        Some(_) => {
+            let place = used(words, &names.lists, most)?;
+            (Some(place), (names.lists[place].size, names.lists[place].values.clone()))
+        }
+    };
     let place = names.attributes[class].len();
     raw.classes[class].count += 1;
     raw.classes[class].kinds[place] = set as u8;
     raw.classes[class].sizes[place] = size as u8;
-    names.attributes[class].push(Named { name, attribute: Attribute { set, size }, list });
+    names.attributes[class].push(Named { name, attribute: Attribute { set, size, list: 0 }, list, values });
     let wide = width(&names.plain(class));
     if wide > 8 {
         return Err((line, format!("the values of one {} now take {wide} bits, more than 8", CLASSES[class])));

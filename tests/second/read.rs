@@ -1,7 +1,7 @@
 //! Reading a rule file, field by field.
 
-use super::formula::node_fits;
-use super::rules::{meanings, width, Attribute, Node, Owned, Rules, ALLOW, ITEM, SESSION, USER};
+use super::formula::judge_node;
+use super::rules::{meanings, size_agrees, width, Attribute, Node, Owned, Rules, ALLOW, ITEM, SESSION, USER};
 use super::value::decode_one;
 
 /// A file and the position of the next bit.
@@ -44,23 +44,30 @@ impl Reader<'_> {
         Ok(())
     }
 
-    fn attribute(&mut self) -> Result<Attribute, u32> {
+    /// An attribute; its list number is judged by the attributes before it, of all classes, once it is read.
+    fn attribute(&mut self, earlier: &[Attribute]) -> Result<Attribute, u32> {
         let set = self.field(1)? == 1;
         let size = self.field(5)?;
         let most = if set { 8 } else { 16 };
         if size < 1 || size > most {
             return Err(4);
         }
-        self.spare(6)?;
-        Ok(Attribute { set, size })
+        let attribute = Attribute { set, size, list: self.field(5)? };
+        if !size_agrees(earlier, &attribute) {
+            return Err(18);
+        }
+        self.spare(1)?;
+        Ok(attribute)
     }
 
-    /// The attributes of one class; its width is judged after its last one.
-    fn class(&mut self, count: u32) -> Result<Vec<Attribute>, u32> {
-        let mut attributes = Vec::new();
+    /// The attributes of one class, which join those of the classes before it; its width is judged after its last one.
+    fn class(&mut self, count: u32, earlier: &mut Vec<Attribute>) -> Result<Vec<Attribute>, u32> {
+        let first = earlier.len();
         for _ in 0..count {
-            attributes.push(self.attribute()?);
+            let attribute = self.attribute(earlier)?;
+            earlier.push(attribute);
         }
+        let attributes = earlier[first..].to_vec();
         if width(&attributes) > 8 {
             return Err(5);
         }
@@ -98,9 +105,7 @@ impl Reader<'_> {
         for place in 0..count {
             let bits = self.field(20)?;
             let node = Node { operator: bits / 65536, a: bits / 256 % 256, b: bits % 256 };
-            if !node_fits(attributes, number, place, &node) {
-                return Err(8);
-            }
+            judge_node(attributes, number, place, &node)?;
             nodes.push(node);
         }
         Ok(nodes)
@@ -129,9 +134,10 @@ pub fn read(bytes: &[u8]) -> Result<Rules, u32> {
     let item_count = reader.count(6, 0, 32)?;
     let permissions = reader.count(4, 1, 8)?;
     reader.spare(7)?;
-    let user_attributes = reader.class(attribute_counts[USER])?;
-    let session_attributes = reader.class(attribute_counts[SESSION])?;
-    let item_attributes = reader.class(attribute_counts[ITEM])?;
+    let mut earlier = Vec::new();
+    let user_attributes = reader.class(attribute_counts[USER], &mut earlier)?;
+    let session_attributes = reader.class(attribute_counts[SESSION], &mut earlier)?;
+    let item_attributes = reader.class(attribute_counts[ITEM], &mut earlier)?;
     let attributes = [user_attributes, session_attributes, item_attributes];
     let mut users = Vec::new();
     for _ in 0..user_count {

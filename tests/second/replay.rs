@@ -43,7 +43,7 @@ fn replay_file(
     replay_rows(&rules, &asked, rows, sessions, items)
 }
 
-/// 0 if the rows replay as a leak, else the number: 1 to 8 of the file, 10 of the question, 15 of the start,
+/// 0 if the rows replay as a leak, else the number: the file's (1 to 8, 18, 19), 10 of the question, 15 of the start,
 /// the first failing row's own, or 17.
 pub fn replay(file: &[u8], question: &[u8], rows: &[u64], sessions: &mut [u64], items: &mut [u64]) -> u32 {
     replay_file(file, question, rows, sessions, items).err().unwrap_or(0)

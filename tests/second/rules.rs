@@ -19,6 +19,8 @@ pub const ALLOW: usize = 4;
 pub struct Attribute {
     pub set: bool,
     pub size: u32,
+    /// The number of its list, 0 for none.
+    pub list: u32,
 }
 
 impl Attribute {
@@ -38,6 +40,11 @@ impl Attribute {
 /// How many bits the value of one holder takes.
 pub fn width(attributes: &[Attribute]) -> u32 {
     attributes.iter().map(Attribute::width).sum()
+}
+
+/// Whether an attribute has the size of every earlier one of its list. List 0 is no list.
+pub fn size_agrees(earlier: &[Attribute], attribute: &Attribute) -> bool {
+    attribute.list == 0 || earlier.iter().all(|other| other.list != attribute.list || other.size == attribute.size)
 }
 
 /// One node of a formula.
@@ -106,6 +113,7 @@ pub struct RawClass {
     pub count: u8,
     pub kinds: [u8; 8],
     pub sizes: [u8; 8],
+    pub lists: [u8; 8],
 }
 
 /// The users as they stand in memory.
@@ -147,7 +155,7 @@ impl RawRules {
     /// Rules in memory with every field 0.
     pub fn zero() -> RawRules {
         RawRules {
-            classes: [RawClass { count: 0, kinds: [0; 8], sizes: [0; 8] }; 3],
+            classes: [RawClass { count: 0, kinds: [0; 8], sizes: [0; 8], lists: [0; 8] }; 3],
             users: RawUsers { count: 0, values: [0; 16] },
             sessions: RawSessions { count: 0, owners: [0; 32], values: [0; 32] },
             items: RawItems { count: 0, values: [0; 32] },
@@ -165,6 +173,7 @@ impl RawRules {
             for (place, attribute) in attributes.iter().enumerate() {
                 raw.classes[class].kinds[place] = attribute.set as u8;
                 raw.classes[class].sizes[place] = attribute.size as u8;
+                raw.classes[class].lists[place] = attribute.list as u8;
             }
         }
         raw.users.count = rules.users.len() as u8;

@@ -3,9 +3,10 @@
 use super::expectation::{expectation, Asked, Expectation};
 use super::expression::{formula, HOLDERS};
 use super::formula::HOLD_CONSTANT;
+use super::lists::{declaration as list_declaration, number_all};
 use super::names::{attribute, item, permission, session, user, Names, CLASSES};
 use super::read::read;
-use super::rules::{Node, RawRules, Rules, ALLOW, CHANGE_ITEM, CHANGE_SESSION, ITEM, MAKE, OPEN, SESSION, USER};
+use super::rules::{Attribute, Node, RawRules, Rules, ALLOW, CHANGE_ITEM, CHANGE_SESSION, ITEM, MAKE, OPEN, SESSION, USER};
 use super::value::Value;
 use super::words::{shown, Bad, Word, Words};
 use super::write::file_of;
@@ -71,6 +72,9 @@ impl Assembler {
             self.expectations.push(expectation(&mut self.words)?);
             return Ok(());
         }
+        if self.words.take_if("list") {
+            return list_declaration(&mut self.words, &mut self.names.lists);
+        }
         if self.words.take_if("permission") {
             return permission(&mut self.words, &mut self.names, &mut self.raw);
         }
@@ -89,7 +93,7 @@ impl Assembler {
     }
 
     /// What a whole text must have: the file, and what its expectations ask.
-    fn finish(&self) -> Result<(Vec<u8>, Vec<Asked>), Bad> {
+    fn finish(&mut self) -> Result<(Vec<u8>, Vec<Asked>), Bad> {
         if self.names.users.is_empty() {
             return self.words.bad("there is no user");
         }
@@ -107,6 +111,7 @@ impl Assembler {
             }
         }
         let asked: Result<Vec<Asked>, Bad> = self.expectations.iter().map(|one| one.asked(&self.names)).collect();
+        number_all(&self.names, &mut self.raw);
         match file_of(&self.raw) {
             Ok(bytes) => asked.map(|asked| (bytes, asked)),
             Err(number) => self.words.bad(&format!("no file can hold these rules: {number}")),
@@ -186,15 +191,34 @@ fn formula_text(heading: &str, nodes: &[Node]) -> String {
     text + &format!("  {}\n", node_text(&nodes[last]))
 }
 
+/// The declarations of all lists that the attributes use, in rising order; list 5 is called `list5`.
+fn lists_text(attributes: &[Attribute]) -> String {
+    let mut text = String::new();
+    for number in 1..32 {
+        if let Some(attribute) = attributes.iter().find(|attribute| attribute.list == number) {
+            text += &format!("list list{number} {number} = {}\n", attribute.size);
+        }
+    }
+    text
+}
+
+/// An attribute as text: its kind and its list.
+fn attribute_text(attribute: &Attribute) -> String {
+    let kind = if attribute.set { "set" } else { "one" };
+    match attribute.list {
+        0 => format!("{kind} of {}", attribute.size),
+        list => format!("{kind} of list{list}"),
+    }
+}
+
 /// The text of a file, with numbered names, or the number of the file's first fault.
 /// Assembled again it gives the same bytes.
 pub fn list(bytes: &[u8]) -> Result<String, u32> {
     let rules = read(bytes)?;
-    let mut text = String::new();
+    let mut text = lists_text(&rules.attributes.concat());
     for (class, attributes) in rules.attributes.iter().enumerate() {
         for (place, attribute) in attributes.iter().enumerate() {
-            let kind = if attribute.set { "set" } else { "one" };
-            text += &format!("{} attribute a{place}: {kind} of {}\n", CLASSES[class], attribute.size);
+            text += &format!("{} attribute a{place}: {}\n", CLASSES[class], attribute_text(attribute));
         }
     }
     for (place, value) in rules.users.iter().enumerate() {

@@ -1,7 +1,7 @@
 //! Writing rules that stand in memory: first judged in reading order, then written.
 
-use super::formula::node_fits;
-use super::rules::{width, Attribute, Node, RawClass, RawRules, ALLOW, ITEM, SESSION, USER};
+use super::formula::judge_node;
+use super::rules::{size_agrees, width, Attribute, Node, RawClass, RawRules, ALLOW, ITEM, SESSION, USER};
 use super::value::decode;
 
 /// The number a fault has, unless all is well.
@@ -24,15 +24,19 @@ fn judge_head(raw: &RawRules) -> Result<(), u32> {
     demand((1..=8).contains(&raw.permissions), 2)
 }
 
-/// The attributes of one class; a kind that is neither 0 nor 1 is judged with the size.
-fn judge_class(class: &RawClass) -> Result<Vec<Attribute>, u32> {
-    let mut attributes = Vec::new();
+/// The attributes of one class, which join those of the classes before it. A kind that is neither 0 nor 1 is judged
+/// with the size; a list number that 5 bits don't hold gets 18, as a size does that differs from an earlier one.
+fn judge_class(class: &RawClass, earlier: &mut Vec<Attribute>) -> Result<Vec<Attribute>, u32> {
+    let first = earlier.len();
     for place in 0..class.count as usize {
         let (kind, size) = (class.kinds[place], u32::from(class.sizes[place]));
         let most = if kind == 0 { 16 } else { 8 };
         demand(kind <= 1 && size >= 1 && size <= most, 4)?;
-        attributes.push(Attribute { set: kind == 1, size });
+        let attribute = Attribute { set: kind == 1, size, list: u32::from(class.lists[place]) };
+        demand(attribute.list <= 31 && size_agrees(earlier, &attribute), 18)?;
+        earlier.push(attribute);
     }
+    let attributes = earlier[first..].to_vec();
     demand(width(&attributes) <= 8, 5)?;
     Ok(attributes)
 }
@@ -51,7 +55,7 @@ fn judge_formula(raw: &RawRules, attributes: &[Vec<Attribute>; 3], formula: usiz
     demand((1..=64).contains(&raw.lengths[formula]), 8)?;
     for place in 0..raw.lengths[formula] {
         let node = node_of(raw.nodes[formula][place as usize]);
-        demand(node_fits(attributes, formula, u32::from(place), &node), 8)?;
+        judge_node(attributes, formula, u32::from(place), &node)?;
     }
     Ok(())
 }
@@ -59,9 +63,10 @@ fn judge_formula(raw: &RawRules, attributes: &[Vec<Attribute>; 3], formula: usiz
 /// The first fault in reading order, or the attributes of the three classes.
 fn judge(raw: &RawRules) -> Result<[Vec<Attribute>; 3], u32> {
     judge_head(raw)?;
-    let user_attributes = judge_class(&raw.classes[USER])?;
-    let session_attributes = judge_class(&raw.classes[SESSION])?;
-    let item_attributes = judge_class(&raw.classes[ITEM])?;
+    let mut earlier = Vec::new();
+    let user_attributes = judge_class(&raw.classes[USER], &mut earlier)?;
+    let session_attributes = judge_class(&raw.classes[SESSION], &mut earlier)?;
+    let item_attributes = judge_class(&raw.classes[ITEM], &mut earlier)?;
     let attributes = [user_attributes, session_attributes, item_attributes];
     for place in 0..raw.users.count as usize {
         judge_value(&attributes[USER], raw.users.values[place])?;
@@ -130,7 +135,8 @@ pub fn file_of(raw: &RawRules) -> Result<Vec<u8>, u32> {
     for attribute in attributes.iter().flatten() {
         writer.field(1, attribute.set as u32);
         writer.field(5, attribute.size);
-        writer.field(6, 0);
+        writer.field(5, attribute.list);
+        writer.field(1, 0);
     }
     let widths = [width(&attributes[USER]), width(&attributes[SESSION]), width(&attributes[ITEM])];
     for place in 0..raw.users.count as usize {

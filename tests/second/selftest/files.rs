@@ -4,16 +4,18 @@ use super::{bytes_of, file, Checks, COUNTER};
 use crate::second::formula::{may_change_session, may_open};
 use crate::second::read::read;
 
-type Fields = Vec<(u32, u32)>;
+/// Fields of a file, each a width and a number.
+pub type Fields = Vec<(u32, u32)>;
 
 /// A head: attribute counts of users, sessions and items, users, starting sessions, starting items, permissions, spare.
-fn head(counts: [u32; 8]) -> Fields {
+pub fn head(counts: [u32; 8]) -> Fields {
     let widths = [4, 4, 4, 5, 6, 6, 4, 7];
     (0..8).map(|place| (widths[place], counts[place])).collect()
 }
 
-fn attribute(kind: u32, size: u32, spare: u32) -> Fields {
-    vec![(1, kind), (5, size), (6, spare)]
+/// An attribute of list 0, with its last bit.
+fn attribute(kind: u32, size: u32, last: u32) -> Fields {
+    vec![(1, kind), (5, size), (5, 0), (1, last)]
 }
 
 /// A formula of these nodes, each operator, a and b.
@@ -26,7 +28,7 @@ fn formula(nodes: &[(u32, u32, u32)]) -> Fields {
 }
 
 /// The formulas of a file with one permission, all true but the one at a place.
-fn formulas(place: usize, nodes: &[(u32, u32, u32)]) -> Fields {
+pub fn formulas(place: usize, nodes: &[(u32, u32, u32)]) -> Fields {
     (0..5).flat_map(|other| formula(if other == place { nodes } else { &[(1, 0, 0)] })).collect()
 }
 
@@ -35,7 +37,8 @@ fn number(bytes: &[u8]) -> u32 {
     read(bytes).err().unwrap_or(0)
 }
 
-fn number_of(parts: &[Fields]) -> u32 {
+/// The number that reading these parts of a file gives; 0 if it gives rules.
+pub fn number_of(parts: &[Fields]) -> u32 {
     number(&bytes_of(&parts.concat()))
 }
 
@@ -82,13 +85,13 @@ fn fields_in_order(checks: &mut Checks) {
     checks.same("the head's spare", number_of(&[head([0, 0, 0, 1, 0, 0, 1, 1])]), 3);
     checks.same("the head cut off", number(&bytes_of(&head([0, 0, 0, 1, 0, 0, 1, 1]))[..4]), 1);
     let one = head([1, 0, 0, 1, 0, 0, 1, 0]);
-    checks.same("size before spare", number_of(&[one.clone(), attribute(0, 0, 1)]), 4);
+    checks.same("size before the last bit", number_of(&[one.clone(), attribute(0, 0, 1)]), 4);
     checks.same("size before the end", number_of(&[one.clone(), vec![(1, 0), (5, 17)]]), 4);
     checks.same("a good size, then the end", number_of(&[one.clone(), vec![(1, 0), (5, 16)]]), 1);
-    checks.same("an attribute's spare", number_of(&[one, attribute(0, 2, 1)]), 3);
+    checks.same("an attribute's last bit", number_of(&[one, attribute(0, 2, 1)]), 3);
     let two = head([0, 2, 1, 1, 0, 0, 1, 0]);
     let wide = [two, attribute(1, 5, 0)].concat();
-    checks.same("spare before width", number_of(&[wide.clone(), attribute(1, 5, 1)]), 3);
+    checks.same("the last bit before the width", number_of(&[wide.clone(), attribute(1, 5, 1)]), 3);
     checks.same("width before the next class", number_of(&[wide, attribute(1, 5, 0), attribute(0, 0, 1)]), 5);
     let third = [head([0, 3, 0, 1, 0, 0, 1, 0]), attribute(1, 4, 0), attribute(1, 4, 0), vec![(1, 1), (5, 4)]];
     checks.same("end before width", number_of(&third), 1);

@@ -3,6 +3,8 @@
 
 mod analysing;
 mod files;
+mod list_texts;
+mod lists;
 mod named;
 mod random;
 mod replaying;
@@ -62,14 +64,16 @@ pub fn file(text: &str) -> Vec<u8> {
 pub fn selftest() -> Result<Vec<u8>, String> {
     let mut checks = Checks { made: 0, failed: Vec::new() };
     let mut report = String::new();
-    let parts: [(&str, fn(&mut Checks)); 9] = [
+    let parts: [(&str, fn(&mut Checks)); 11] = [
         ("reading files", files::all),
         ("writing files", writing::all),
+        ("lists in files", lists::all),
         ("steps on cells", stepping::all),
         ("replaying", replaying::all),
         ("analysing", analysing::all),
         ("readable text", texts::all),
         ("names and expectations", named::all),
+        ("lists in texts", list_texts::all),
         ("random files", sampled::all),
         ("wide files", speed::all),
     ];

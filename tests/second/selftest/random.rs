@@ -1,6 +1,6 @@
 //! Random rules that a file can hold, from a seed.
 
-use crate::second::formula::{class_of, holders_of, node_fits};
+use crate::second::formula::{class_of, holders_of, judge_node};
 use crate::second::formula::{HOLD_CONSTANT, HOLD_ITEM, HOLD_NEW_ITEM, HOLD_NEW_SESSION, HOLD_SESSION};
 use crate::second::rules::{width, Attribute, Node, RawRules, ALLOW, CHANGE_ITEM, CHANGE_SESSION};
 
@@ -37,14 +37,31 @@ pub struct Bounds {
     pub nodes: u32,
 }
 
-/// The attributes of a class, each as wide as the width left allows.
-fn class(random: &mut Random, bounds: &Bounds) -> Vec<Attribute> {
+/// The sizes of the lists that random attributes may use, each at its number; 0 where there is no list. A third of the
+/// rules have none.
+fn lists(random: &mut Random) -> [u32; 32] {
+    let mut sizes = [0; 32];
+    for _ in 0..random.below(3) {
+        let number = [1, 31, random.between(1, 31)][random.below(3) as usize];
+        sizes[number as usize] = [2, random.between(1, 8), random.between(1, 16)][random.below(3) as usize];
+    }
+    sizes
+}
+
+/// The attributes of a class, each as wide as the width left allows; most are of a list, if one of them fits.
+fn class(random: &mut Random, bounds: &Bounds, lists: &[u32; 32]) -> Vec<Attribute> {
     let mut attributes = Vec::new();
     for _ in 0..random.between(0, bounds.attributes) {
         let left = bounds.width - width(&attributes);
         let set = left > 0 && random.below(2) == 1;
         let most = if set { left } else { 1 << left.min(4) };
-        attributes.push(Attribute { set, size: random.between(1, most) });
+        let fitting: Vec<u32> = (1..32).filter(|list| (1..=most).contains(&lists[*list as usize])).collect();
+        if fitting.is_empty() || random.below(4) == 0 {
+            attributes.push(Attribute { set, size: random.between(1, most), list: 0 });
+            continue;
+        }
+        let list = fitting[random.below(fitting.len() as u32) as usize];
+        attributes.push(Attribute { set, size: lists[list as usize], list });
     }
     attributes
 }
@@ -83,7 +100,7 @@ fn node(random: &mut Random, attributes: &[Vec<Attribute>; 3], formula: usize, p
         };
         let node = Node { operator, a, b };
         // Plain true and false are taken seldom, for they make dull rules.
-        if node_fits(attributes, formula, place, &node) && (operator > 1 || random.below(6) == 0) {
+        if judge_node(attributes, formula, place, &node).is_ok() && (operator > 1 || random.below(6) == 0) {
             return node;
         }
     }
@@ -125,12 +142,14 @@ pub fn rules(random: &mut Random, bounds: &Bounds) -> RawRules {
     raw.users.values.fill(random.below(256) as u8);
     raw.sessions.values.fill(random.below(256) as u8);
     raw.nodes.iter_mut().for_each(|nodes| nodes.fill(random.below(1 << 20)));
-    let attributes = [class(random, bounds), class(random, bounds), class(random, bounds)];
+    let lists = lists(random);
+    let attributes = [0; 3].map(|_| class(random, bounds, &lists));
     for (place, list) in attributes.iter().enumerate() {
         raw.classes[place].count = list.len() as u8;
         for (number, attribute) in list.iter().enumerate() {
             raw.classes[place].kinds[number] = attribute.set as u8;
             raw.classes[place].sizes[number] = attribute.size as u8;
+            raw.classes[place].lists[number] = attribute.list as u8;
         }
     }
     raw.users.count = random.between(1, bounds.users) as u8;

@@ -1,5 +1,6 @@
-//! Writing: the settled readings 7 and 8.
+//! Writing: the settled readings 7 and 8, and list numbers.
 
+use super::lists::counter_with_lists;
 use super::{Checks, COUNTER};
 use crate::second::read::read;
 use crate::second::rules::RawRules;
@@ -34,6 +35,7 @@ pub fn all(checks: &mut Checks) {
     faults(checks);
     order(checks);
     uncovered(checks);
+    lists(checks);
 }
 
 fn faults(checks: &mut Checks) {
@@ -109,6 +111,7 @@ fn uncovered(checks: &mut Checks) {
     for class in &mut raw.classes {
         class.kinds[1..].fill(255);
         class.sizes[1..].fill(255);
+        class.lists[1..].fill(255);
     }
     raw.users.values[2..].fill(255);
     raw.sessions.owners.fill(255);
@@ -122,4 +125,73 @@ fn uncovered(checks: &mut Checks) {
     let mut out = [0; 33];
     checks.same("places that no count covers", write(&raw, &mut out), Ok(33));
     checks.same("the same file without them", out, COUNTER);
+}
+
+/// List numbers: 18 for one that 5 bits don't hold and for a size that differs, 19 for compared lists that differ.
+fn lists(checks: &mut Checks) {
+    let listed = RawRules::of(&read(&counter_with_lists()).unwrap());
+    let mut expect = |what: &str, expected: u32, change: fn(&mut RawRules)| {
+        let mut raw = listed.clone();
+        change(&mut raw);
+        let mut out = [0xA5; 2000];
+        checks.same(what, write(&raw, &mut out).err().unwrap_or(0), expected);
+        checks.holds("a refusal writes nothing", expected == 0 || out == [0xA5; 2000]);
+        let found = write(&raw, &mut []).err().unwrap_or(0);
+        checks.same("11 last", found, if expected == 0 { 11 } else { expected });
+    };
+    expect("the counter file with lists", 0, |_| ());
+    let great: [fn(&mut RawRules); 5] = [
+        |raw| raw.classes[0].lists[0] = 32,
+        |raw| raw.classes[1].lists[0] = 255,
+        |raw| raw.classes[2].lists[0] = 32,
+        |raw| raw.classes[2].lists[0] = 128,
+        |raw| raw.classes.iter_mut().for_each(|class| class.lists[0] = 32),
+    ];
+    for change in great {
+        expect("a list number of 32 or more", 18, change);
+    }
+    expect("33 for both sets, 1 if cut", 18, |raw| raw.classes[..2].iter_mut().for_each(|class| class.lists[0] = 33));
+    expect("a size that differs", 18, |raw| raw.classes[2].lists[0] = 1);
+    expect("a size that differs, changed", 18, |raw| raw.classes[1].sizes[0] = 2);
+    expect("another free list", 0, |raw| raw.classes[2].lists[0] = 30);
+    expect("list 0 beside lists", 0, |raw| raw.classes[2].lists[0] = 0);
+    expect("list 0 against list 1", 19, |raw| raw.classes[0].lists[0] = 0);
+    expect("list 31 against list 1", 19, |raw| {
+        raw.classes[0].lists[0] = 31;
+        raw.classes[2].lists[0] = 0;
+    });
+    expect("4 before 18", 4, |raw| {
+        raw.classes[1].sizes[0] = 9;
+        raw.classes[1].lists[0] = 32;
+    });
+    expect("kind 2 before 18", 4, |raw| {
+        raw.classes[1].kinds[0] = 2;
+        raw.classes[1].lists[0] = 32;
+    });
+    expect("18 before 5", 18, |raw| {
+        raw.classes[2].count = 2;
+        raw.classes[2].kinds = [1; 8];
+        raw.classes[2].sizes = [8; 8];
+        raw.classes[2].lists[1] = 32;
+    });
+    expect("18 before 4 of a later class", 18, |raw| {
+        raw.classes[0].lists[0] = 64;
+        raw.classes[2].sizes[0] = 0;
+    });
+    expect("6 before 19", 6, |raw| {
+        raw.classes[0].lists[0] = 2;
+        raw.users.values[1] = 2;
+    });
+    expect("19 before 8 of a later formula", 19, |raw| {
+        raw.classes[0].lists[0] = 2;
+        raw.lengths[4] = 65;
+    });
+    expect("8 before 19 at one node", 8, |raw| {
+        raw.classes[0].lists[0] = 2;
+        raw.nodes[0][0] += 32 * 256;
+    });
+    expect("8 before 19 of a later formula", 8, |raw| {
+        raw.classes[1].lists[0] = 2;
+        raw.lengths[0] = 0;
+    });
 }

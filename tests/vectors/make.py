@@ -8,7 +8,7 @@ import re
 import sys
 
 PARTS = ["user.count", "session.count", "item.count", "users", "sessions", "items", "permissions", "user.kind", "user.size", "session.kind",
-         "session.size", "item.kind", "item.size", "value", "owner", "held", "item", "length", "node"]
+         "session.size", "item.kind", "item.size", "value", "owner", "held", "item", "length", "node", "user.list", "session.list", "item.list"]
 
 SETS = ["member", "subset", "proper"]
 

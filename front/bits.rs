@@ -12,7 +12,8 @@ pub fn bytes(rules: &Rules) -> Vec<u8> {
     for attribute in rules.attributes.iter().flatten() {
         bits.put(u64::from(attribute.set), 1);
         bits.put(attribute.size as u64, 5);
-        bits.put(0, 6);
+        bits.put(rules.list_number(attribute) as u64, 5);
+        bits.put(0, 1);
     }
     for class in CLASSES {
         holders(&mut bits, rules, class);

@@ -1,6 +1,7 @@
 //! Reading comparisons: `session.role = clerk`, `item.ledger in session.ledgers`.
 
 use crate::command_messages::{did_you_mean, meant, not_in_list};
+use crate::differing::{differ, mended};
 use crate::formula::Body;
 use crate::holders::in_list;
 use crate::messages;
@@ -196,6 +197,9 @@ impl Reader {
         }
         let sides = (self.looked_up(body, &left, &right)?, self.looked_up(body, &right, &left)?);
         if let (Some(a), Some(b)) = sides {
+            if self.lists_differ(body.heading, comparison, [a, b], place) {
+                return Ok(None);
+            }
             self.seen.compared.push(Compared { comparison, sides: [a, b], place });
             return Ok(Some(Node::Compare(comparison, a, b)));
         }
@@ -216,16 +220,11 @@ impl Reader {
         let (operator, needed) = (comparison.words(), comparison.sets());
         let (term, set) = if kinds[0] != needed[0] { (left, kinds[0]) } else { (right, kinds[1]) };
         let message = if set { messages::is_set(&term.text, operator) } else { messages::is_one(&term.text, operator) };
-        let (l, r) = (&left.text, &right.text);
-        let way = match (kinds, comparison) {
-            ([true, true], Comparison::Equal) => format!("{l} subset {r} and {r} subset {l}"),
-            ([true, true], Comparison::Below) => format!("{l} proper subset {r}"),
-            ([true, true], _) => format!("{l} subset {r}"),
-            ([true, false], _) => format!("{r} in {l}"),
-            ([false, true], _) => format!("{l} in {r}"),
-            ([false, false], _) => format!("{l} = {r}"),
+        let help = match (&left.value, &right.value) {
+            (Value::Known(a), Value::Known(b)) if differ(&self.rules, [*a, *b]) => mended(&self.rules, comparison, [*a, *b]),
+            _ => messages::instead(&way([&left.text, &right.text], kinds, comparison)),
         };
-        self.fault(term.place, message, messages::instead(&way));
+        self.fault(term.place, message, help);
     }
 
     /// A side, its name looked up in the list of the other one. A part in its place may be the formula's answer, so nothing after it is read.
@@ -244,6 +243,19 @@ impl Reader {
             self.fault(term.place, message, in_list(&attribute, name));
         }
         Ok(number.map(|number| Side::Constant(number as u8)))
+    }
+}
+
+/// How two sides of these kinds are compared: with this operator where it takes them, else with one that is near to it.
+pub fn way([l, r]: [&str; 2], kinds: [bool; 2], comparison: Comparison) -> String {
+    match (kinds, comparison) {
+        _ if kinds == comparison.sets() => format!("{l} {} {r}", comparison.words()),
+        ([true, true], Comparison::Equal) => format!("{l} subset {r} and {r} subset {l}"),
+        ([true, true], Comparison::Below) => format!("{l} proper subset {r}"),
+        ([true, true], _) => format!("{l} subset {r}"),
+        ([true, false], _) => format!("{r} in {l}"),
+        ([false, true], _) => format!("{l} in {r}"),
+        ([false, false], _) => format!("{l} = {r}"),
     }
 }
 

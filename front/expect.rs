@@ -33,7 +33,7 @@ impl Reader {
         let never = self.sees(0, "never");
         self.step();
         let permission = self.at();
-        if self.resumes() && !self.is_permission("expect") {
+        if self.resumes() && !self.is_permission(&self.source(self.word().place)) {
             return Err(self.misplaced("the name of a permission"));
         }
         if self.sees(0, "not") {

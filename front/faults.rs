@@ -8,7 +8,7 @@ use crate::signs::{instead_of, meant_of, no_word};
 use crate::words::{Token, Word};
 
 /// The words that declarations begin with.
-pub const BEGINNINGS: [&str; 9] = ["user", "session", "item", "permission", "open", "change", "make", "allow", "expect"];
+pub const BEGINNINGS: [&str; 10] = ["list", "user", "session", "item", "permission", "open", "change", "make", "allow", "expect"];
 
 /// More faults than anybody reads: after so many the rest of the text is not read.
 pub const ENOUGH: usize = 100;
@@ -42,6 +42,7 @@ impl Reader {
         let Word { token, first, .. } = self.word();
         match token {
             Token::Name(name) if *first => match name.as_str() {
+                "list" => self.declares_list(),
                 "user" => self.sees(1, "attribute") || self.sees_name(1),
                 "session" => self.sees_any(1, &["attribute", "of"]) || self.sees_name(1) && self.sees(2, "of"),
                 "item" => self.sees_any(1, &["attribute", ":"]) || self.sees_name(1) || self.ahead(1).first && !self.sees(1, "."),

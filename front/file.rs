@@ -1,12 +1,12 @@
-//! Reading the rules of a rule file that the library accepted.
+//! Reading the rules of a rule file that the library accepted, or refused with 18 or 19: of such a file only what stands before the fault counts.
 
 use crate::bits::width;
 use crate::listing::listable;
-use crate::model::{Attribute, Class, Formula, Holder, Node, Permission, Rules, Side, CLASSES, COMPARISONS, OWNERS};
+use crate::model::{Attribute, Class, Formula, Holder, List, Node, Permission, Rules, Side, CLASSES, COMPARISONS, OWNERS};
 use crate::phrase::unnamed;
 use crate::report::Place;
 
-/// No accepted file has holders with wider values.
+/// No accepted file has holders with wider values; where a file is refused with 18, the classes after the fault can be wider, and are not looked at.
 const WIDTH: u32 = 8;
 
 /// The rules, with names made for them.
@@ -14,7 +14,13 @@ pub fn rules(bytes: &[u8]) -> Rules {
     let mut file = Bits { bytes, at: 0 };
     let counts = CLASSES.map(|_| file.take(4));
     let [users, sessions, items, permissions, _] = [5, 6, 6, 4, 7].map(|bits| file.take(bits));
-    let mut rules = Rules { attributes: counts.map(|count| attributes(&mut file, count)), ..Rules::default() };
+    let mut rules = Rules::default();
+    for (class, count) in counts.into_iter().enumerate() {
+        for number in 0..count {
+            let attribute = attribute(&mut file, number, &mut rules.lists);
+            rules.attributes[class].push(attribute);
+        }
+    }
     if rules.attributes.iter().any(|of_class| width(of_class) > WIDTH) {
         return rules;
     }
@@ -26,12 +32,14 @@ pub fn rules(bytes: &[u8]) -> Rules {
     rules
 }
 
-fn attributes(file: &mut Bits, count: usize) -> Vec<Attribute> {
-    let attribute = |number| {
-        let [set, size, _] = [1, 5, 6].map(|bits| file.take(bits));
-        Attribute { name: format!("a{number}"), set: set == 1, size, names: Vec::new(), place: Place::default() }
-    };
-    (0..count).map(attribute).collect()
+/// The next attribute. A list number that none before it has is a new list.
+fn attribute(file: &mut Bits, number: usize, lists: &mut Vec<List>) -> Attribute {
+    let [set, size, list, _] = [1, 5, 5, 1].map(|bits| file.take(bits));
+    if list > 0 && lists.iter().all(|other| other.number != list) {
+        lists.push(List { name: format!("list{list}"), number: list, size, names: Vec::new(), place: Place::default() });
+    }
+    let list = lists.iter().position(|other| other.number == list);
+    Attribute { name: format!("a{number}"), set: set == 1, list, size, names: Vec::new(), place: Place::default() }
 }
 
 fn holders(file: &mut Bits, rules: &Rules, class: Class, count: usize) -> Vec<Holder> {

@@ -31,6 +31,8 @@ struct Part {
 
 /// A formula as far as it is read.
 pub struct Body {
+    /// Nothing of a permission that is not there.
+    pub heading: Option<Heading>,
     pub owners: &'static [Owner],
     nodes: Vec<Node>,
     names: Vec<Option<String>>,
@@ -65,7 +67,7 @@ impl Reader {
         self.form = messages::heading_form();
         self.need(":")?;
         let owners = heading.unwrap_or(Heading::Allow(0)).owners();
-        let mut body = Body { owners, nodes: Vec::new(), names: Vec::new(), parts: BTreeMap::new(), part: None, depth: 0, over: None };
+        let mut body = Body { heading, owners, nodes: Vec::new(), names: Vec::new(), parts: BTreeMap::new(), part: None, depth: 0, over: None };
         while self.sees(0, "let") {
             self.part(&mut body)?;
         }

@@ -17,6 +17,7 @@ const PERMISSIONS: usize = 8;
 pub fn read(text: &str) -> (Option<Rules>, Vec<Report>) {
     let mut reader = Reader::new(text);
     reader.declarations();
+    reader.number_lists();
     reader.name_unnamed(Class::Session);
     reader.name_unnamed(Class::Item);
     reader.expectations();
@@ -40,6 +41,7 @@ impl Reader {
             _ => return Err(self.no_declaration()),
         };
         match word.as_str() {
+            "list" => self.list(),
             "user" => self.of_class(Class::User),
             "session" => self.of_class(Class::Session),
             "item" => self.of_class(Class::Item),

@@ -84,8 +84,8 @@ Exit status: 0 written, 2 not written, 3 internal error.
         "\
 usage: rules list [FILE] [-o TEXT] [--names TEXT]
 
-Makes a text of a rule file; it assembles to the same bytes. A rule file has no names: they are user0, a0 and so on, or those of a text
-that assembles to exactly this file.
+Makes a text of a rule file; it assembles to the same bytes. A rule file has no names: they are user0, a0, list5 and so on, or those of a
+text that assembles to exactly this file.
 Exit status: 0 written, 2 not written, 3 internal error.
 ",
     ),

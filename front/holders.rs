@@ -60,10 +60,14 @@ impl Reader {
     fn optional_name(&mut self, class: Class) -> Read<Option<Named>> {
         let unnamed = match class {
             Class::Session => self.sees(0, "of"),
-            _ => self.sees(0, ":") || self.begins() && !(self.sees(0, "expect") && self.sees(1, ":")),
+            _ => self.sees(0, ":") || self.begins() && !self.is_meant_as_name(),
         };
         if unnamed {
             return Ok(None);
+        }
+        let wanted = if class == Class::Session { "a name or `of`" } else { "a name or `:`" };
+        if self.resumes() {
+            return Err(self.misplaced(wanted));
         }
         let word = self.word().clone();
         if let Token::Name(name) = &word.token {
@@ -71,8 +75,12 @@ impl Reader {
                 self.pass_over(word.place, messages::quoted_only(name, class.word()), messages::in_quotes(name));
             }
         }
-        let wanted = if class == Class::Session { "a name or `of`" } else { "a name or `:`" };
         self.name(wanted).map(Some)
+    }
+
+    /// Whether `expect` or `list` after `item` is its name, by the words that follow, and begins no declaration.
+    fn is_meant_as_name(&self) -> bool {
+        self.sees(0, "expect") && self.sees(1, ":") || self.sees(0, "list") && !self.declares_list()
     }
 
     fn user_of_session(&mut self) -> Read<usize> {

@@ -8,7 +8,7 @@ use crate::model::{Question, Rules, Who};
 use crate::phrase;
 use crate::printed::internal;
 use crate::report::{Place, Report, Severity};
-use crate::{bits, file, grammar, numbers, sha256};
+use crate::{bits, differing, file, grammar, numbers, sha256};
 use std::io::Read;
 
 /// Rules with the bytes of their rule file. `text` is there where they were written as one; `reports` are its warnings and notes.
@@ -98,7 +98,7 @@ fn refused_file(name: String, bytes: &[u8], number: u32) -> Failure {
     } else if bytes.starts_with(&[0xFF, 0xFE]) || bytes.starts_with(&[0xFE, 0xFF]) || bytes.iter().all(|byte| *byte >= 9) {
         Some(messages::not_utf8())
     } else {
-        None
+        differing::in_file(bytes, number)
     };
     let report = Report { severity: Severity::Refused, place: Place::default(), message: with_number(numbers::words(number), number), help };
     Failure::Refused { file: described(&name, bytes), name, text: String::new(), number, reports: vec![report] }

@@ -1,11 +1,12 @@
 //! Rules as a text that assembles to the same bytes.
 
-use crate::model::{Attribute, Class, Formula, Heading, Holder, Node, Rules, CLASSES};
+use crate::model::{Attribute, Class, Formula, Heading, Holder, List, Node, Rules, CLASSES};
 use crate::phrase;
 
 /// The whole text, a blank line between groups of declarations.
 pub fn text(rules: &Rules) -> String {
-    let mut groups: Vec<String> = CLASSES.iter().map(|class| attributes(rules, *class)).collect();
+    let mut groups = vec![lists(rules)];
+    groups.extend(CLASSES.iter().map(|class| attributes(rules, *class)));
     groups.extend(CLASSES.iter().map(|class| holders(rules, *class)));
     groups.push(rules.permissions.iter().map(|p| format!("permission {}\n", phrase::name(&p.name))).collect());
     groups.extend(rules.formulas.iter().enumerate().map(|(number, f)| formula(rules, Heading::of(number), f)));
@@ -14,19 +15,35 @@ pub fn text(rules: &Rules) -> String {
     groups.join("\n")
 }
 
+/// The lists that some attribute uses, by their numbers, which are always written.
+fn lists(rules: &Rules) -> String {
+    let used = |number: usize| rules.attributes.iter().flatten().any(|a| a.list == Some(number));
+    let mut lists: Vec<&List> = rules.lists.iter().enumerate().filter(|(number, _)| used(*number)).map(|(_, list)| list).collect();
+    lists.sort_by_key(|list| list.number);
+    lists.iter().map(|l| format!("list {} {} = {}\n", phrase::name(&l.name), l.number, values(l.size, &l.names))).collect()
+}
+
 fn attributes(rules: &Rules, class: Class) -> String {
-    let line = |a: &Attribute| vec![format!("{} attribute {}:", class.word(), phrase::name(&a.name)), list(a)];
+    let line = |a: &Attribute| vec![format!("{} attribute {}:", class.word(), phrase::name(&a.name)), list(rules, a)];
     table(rules.of(class).iter().map(line).collect())
 }
 
-/// The list of an attribute: `one of {clerk, controller}`, `set of 3`.
-fn list(attribute: &Attribute) -> String {
+/// The list of an attribute: `one of ledger`, `one of {clerk, controller}`, `set of 3`.
+fn list(rules: &Rules, attribute: &Attribute) -> String {
     let kind = if attribute.set { "set" } else { "one" };
-    if attribute.names.is_empty() {
-        return format!("{kind} of {}", attribute.size);
+    match attribute.list {
+        Some(list) => format!("{kind} of {}", phrase::name(&rules.lists[list].name)),
+        None => format!("{kind} of {}", values(attribute.size, &attribute.names)),
     }
-    let names: Vec<String> = attribute.names.iter().map(|n| phrase::name(n)).collect();
-    format!("{kind} of {{{}}}", names.join(", "))
+}
+
+/// The values of a list: their names, or how many there are.
+fn values(size: usize, names: &[String]) -> String {
+    if names.is_empty() {
+        return size.to_string();
+    }
+    let names: Vec<String> = names.iter().map(|n| phrase::name(n)).collect();
+    format!("{{{}}}", names.join(", "))
 }
 
 fn holders(rules: &Rules, class: Class) -> String {

@@ -10,6 +10,7 @@ mod colour;
 mod command_messages;
 mod commands;
 mod comparison;
+mod differing;
 mod expect;
 mod explain;
 mod failure;
@@ -26,7 +27,9 @@ mod json;
 // Hosts take all of it; this program does not need all.
 #[allow(dead_code)]
 mod library;
+mod list_messages;
 mod listing;
+mod lists;
 mod messages;
 mod model;
 mod names;

@@ -1,6 +1,7 @@
 //! What is wrong in a text, and what would be right. Each message is said in one place.
 
 pub use crate::formula_messages::*;
+pub use crate::list_messages::*;
 
 // words
 
@@ -21,7 +22,7 @@ pub fn no_declaration(word: &str) -> String {
 }
 
 pub fn declarations() -> &'static str {
-    "a declaration begins with `user`, `session`, `item`, `permission`, `open`, `change`, `make`, `allow` or `expect`"
+    "a declaration begins with `list`, `user`, `session`, `item`, `permission`, `open`, `change`, `make`, `allow` or `expect`"
 }
 
 pub fn means_nothing(sign: &str) -> String {
@@ -157,27 +158,11 @@ pub fn permission_form() -> &'static str {
 }
 
 pub fn attribute_form() -> &'static str {
-    "write `user attribute NAME: one of {VALUE, VALUE}`, or `set of` for a set; likewise for `session` and `item`"
+    "write `user attribute NAME: one of LIST` or `one of {VALUE, VALUE}`, and `set of` for a set; likewise for `session` and `item`"
 }
 
 pub fn late_attribute(class: &str) -> String {
     format!("an attribute of {class}s stands before the first {class}")
-}
-
-pub fn list_size(most: usize, size: &str) -> String {
-    format!("this list should have 1 to {most} values, not {size}")
-}
-
-pub fn list_sizes() -> &'static str {
-    "`one of` has 1 to 16 values, `set of` 1 to 8"
-}
-
-pub fn list_of_numbers() -> &'static str {
-    "a list has names, as in `one of {low, high}`, or only the number of its values, as in `one of 2`"
-}
-
-pub fn last_comma() -> &'static str {
-    "leave the last comma out"
 }
 
 pub fn too_wide(class: &str, width: u32) -> String {

@@ -27,11 +27,23 @@ impl Class {
     }
 }
 
-/// An attribute with its list: the names of its values, or none where they are written as numbers.
+/// A list with a name, and the number that it has in the file, 1 to 31. Its values are as those of an attribute.
+#[derive(Clone, Debug)]
+pub struct List {
+    pub name: String,
+    pub number: usize,
+    pub size: usize,
+    pub names: Vec<String>,
+    pub place: Place,
+}
+
+/// An attribute with the size of its list, and the names of its values, or none where they are written as numbers.
 #[derive(Clone, Debug)]
 pub struct Attribute {
     pub name: String,
     pub set: bool,
+    /// Which of the rules' lists it uses; none if its list is written in place.
+    pub list: Option<usize>,
     pub size: usize,
     pub names: Vec<String>,
     pub place: Place,
@@ -219,6 +231,7 @@ pub struct Expectation {
 
 #[derive(Clone, Debug, Default)]
 pub struct Rules {
+    pub lists: Vec<List>,
     pub attributes: [Vec<Attribute>; 3],
     pub users: Vec<Holder>,
     pub sessions: Vec<Holder>,
@@ -247,6 +260,11 @@ impl Rules {
             Side::Attribute(owner, number) => Some(&self.of(owner.class())[number]),
             Side::Constant(_) => None,
         }
+    }
+
+    /// The list number that the file has for an attribute: 0 for a list that is written in place.
+    pub fn list_number(&self, attribute: &Attribute) -> usize {
+        attribute.list.map_or(0, |list| self.lists[list].number)
     }
 
     /// A holder's value as the file has it: its attributes side by side, the first in the highest bits, of a set member 0 first.

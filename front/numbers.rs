@@ -1,6 +1,6 @@
 //! The library's numbers in words.
 
-const WORDS: [&str; 17] = [
+const WORDS: [&str; 19] = [
     "a field runs past the file's end",
     "a head count is out of range",
     "a spare or filling bit is set, or bytes follow the end",
@@ -18,6 +18,8 @@ const WORDS: [&str; 17] = [
     "there is no cell for the next number",
     "the formula is false",
     "there are no steps, or the last one is not a grant that fits the question",
+    "two attributes use the same list, but have different numbers of values",
+    "a formula compares two attributes that use different lists",
 ];
 
 /// What a number that the library gives says.

@@ -30,6 +30,7 @@ pub fn of(rules: &Rules, seen: &Seen) -> Vec<Report> {
     reports.extend(seen.compared.iter().filter_map(|compared| beyond_list(rules, compared)));
     reports.extend(seen.unused_parts.iter().map(|part| unused(part.place, messages::unused_part(&part.shown()))));
     reports.extend(unused_attributes(rules));
+    reports.extend(unused_lists(rules));
     reports.extend(orders(rules, &seen.compared));
     reports
 }
@@ -90,6 +91,12 @@ fn unused_attributes(rules: &Rules) -> Vec<Report> {
         }
     }
     reports
+}
+
+fn unused_lists(rules: &Rules) -> Vec<Report> {
+    let used = |number: usize| rules.attributes.iter().flatten().any(|a| a.list == Some(number));
+    let lists = rules.lists.iter().enumerate().filter(|(number, _)| !used(*number));
+    lists.map(|(_, list)| unused(list.place, messages::unused_list(&phrase::name(&list.name)))).collect()
 }
 
 fn class_and_number(side: &Side) -> Option<(usize, usize)> {

@@ -1,6 +1,6 @@
 """What stands around the program. Files: `-o` writes whole or not at all, keeps permissions, follows a symbolic link, and leaves nothing over.
-Terminals: colour there and nowhere else, and no bytes. Outputs that cannot be written, and arguments that are not UTF-8: no panic. The exit status
-is 1 where anything is wrong."""
+Terminals: colour there and nowhere else, and no bytes. Outputs that cannot be written, and arguments that are not UTF-8: no panic. The error of an
+example that docs/TEXT.md shows. The exit status is 1 where anything is wrong."""
 import os
 import shlex
 import shutil
@@ -55,6 +55,13 @@ def written(folder):
     expect(not left, f"left over: {left}")
 
 
+def shown():
+    """the error of examples/branch.rules.txt stands in docs/TEXT.md, indented, without the line that counts errors"""
+    lines = harness.run(["check", "examples/branch.rules.txt"]).text().split("\n")[:-2]
+    block = "".join(f"    {line}\n" for line in lines)
+    expect(len(lines) == 4 and block in harness.content("docs/TEXT.md").decode(), f"docs/TEXT.md does not show this:\n{block}")
+
+
 def on_terminal(folder, arguments, **more):
     """what a run prints on a terminal"""
     command = ["script", "-qec", shlex.join([harness.PROGRAM, *arguments]), "/dev/null"]
@@ -100,6 +107,7 @@ def main():
         harness.put(b"user anna\nuser anna\n", folder, "bad.rules.txt")
         expect(harness.run(["example"]).out == harness.content("examples/wholesaler.rules.txt"), "the example is another text")
         written(folder)
+        shown()
         coloured(folder)
         told = on_terminal(folder, ["assemble", "wholesaler.rules.txt"])
         expect(told.status == 2 and "\0" not in told.text(), f"bytes on a terminal: {told.text()}")

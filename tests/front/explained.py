@@ -88,6 +88,9 @@ def main():
     wholesaler = open("examples/wholesaler.rules.txt", encoding="utf-8").read()
     questions = [(wholesaler, [user, permission]) for user in ("anna", "ben", "carla", "importer") for permission in ("match", "agree", "export")]
     questions += [(PARTED, [user, permission]) for user in ("anna", "ben", "anyone") for permission in ("file", "lock", "burn")]
+    mended = open("examples/branch_mended.rules.txt", encoding="utf-8").read()
+    for user in ("anna", "otto"):
+        questions += [(mended, [user, permission, "on", item]) for permission in ("view", "post") for item in ("invoice", "statement")]
     compared = sum(harness.each(lambda question: asked(*question), questions))
     if compared < 40:
         raise SystemExit(f"only {compared} parts were compared")

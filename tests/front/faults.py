@@ -30,8 +30,8 @@ class Fault:
 
 
 def read():
-    """all faults; the base is the first"""
-    faults, fault = [], None
+    """all faults, and the bases that they change"""
+    faults, fault, base = [], None, None
     for number, line in enumerate(harness.content(PATH).decode().split("\n"), 1):
         text = re.fullmatch(r"(\d+)\|(?: (.*)|)", line)
         carets = re.fullmatch(r" *\| ( *)(\^+) (error|warning|note): (.*)", line)
@@ -40,7 +40,8 @@ def read():
             fault = fault if line else None
             continue
         if not fault:
-            fault = Fault(number, {} if line in ("base", "text") else faults[0].lines)
+            fault = Fault(number, {} if line in ("base", "text") else base.lines)
+            base = fault if line == "base" else base
             faults.append(fault)
         if text:
             fault.put(int(text[1]), text[2])

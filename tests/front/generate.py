@@ -1,9 +1,11 @@
 """Random rules with the text and the rule file of each, made side by side by paper 01 and docs/TEXT.md; neither program is asked.
 
 `text(seed, new)` gives a text and its bytes: without `new` an old text, whose names are often the words that came later; with it also names for
-sessions and items, names in quotes and of other alphabets, and expectations. `file(seed)` gives bytes alone, with nodes that several others share."""
+sessions and items, names in quotes and of other alphabets, expectations, and lists with names. `file(seed)` gives bytes alone, with list numbers and
+with nodes that several others share."""
 import random
 
+from named_lists import WithLists
 from rulefile import Attribute, Rules
 
 # the words that the language got later; an old text may have them as names
@@ -21,12 +23,13 @@ OTHERS = ["a", "b2", "_", "x_y", "Role", "ledger", "state", "p0", "level", "cler
 STRANGE = ["müller", "größe", "счёт", "会計", "two words", "user", "let", "a-b", "1st", "it's", "a,b", "#5", "{x}", "of", "true", "a b", "="]
 
 
-class Maker:
-    def __init__(self, seed, new):
+class Maker(WithLists):
+    def __init__(self, seed, new, lists):
         self.random = random.Random(seed)
         self.new = new
         self.rules = Rules()
         self.words = []
+        self.plan_lists(lists)
 
     def name(self, taken):
         """a name that is not taken"""
@@ -49,21 +52,31 @@ class Maker:
     def add(self, *words):
         self.words += words
 
+    def value_names(self, size):
+        """names for the values of a list, or none"""
+        names = []
+        if self.random.random() < 0.6:
+            for _ in range(size):
+                names.append(self.name(names))
+        return names
+
     def attributes(self, number, most):
         left = self.random.choice([0, 3, most, most])
         for _ in range(self.random.choice([0, 1, 1, 2, 2, 3, 8])):
             is_set = self.random.random() < 0.5
             size = self.random.randint(1, 8) if is_set else self.random.choice([1, 2, 2, 3, 4, 5, 8, 16, self.random.randint(1, 16)])
-            names = []
-            if self.random.random() < 0.6:
-                for _ in range(size):
-                    names.append(self.name(names))
-            attribute = Attribute(self.name([a.name for a in self.rules.attributes[number]]), is_set, size, names)
+            names, used = self.value_names(size), self.used_list(is_set)
+            if used:
+                size, names = used.size, used.names
+            attribute = Attribute(self.name([a.name for a in self.rules.attributes[number]]), is_set, size, names, used)
             if attribute.width() <= left and len(self.rules.attributes[number]) < 8:
                 left -= attribute.width()
                 self.rules.attributes[number].append(attribute)
+                self.maybe_declare()
+                if used in self.waiting:
+                    self.declare(used)
                 self.add(CLASSES[number], "attribute", self.written(attribute.name), ":", "set" if is_set else "one", "of")
-                self.add(*self.braces(names) if names else [str(size)])
+                self.add(*[self.written(used.name)] if used else self.braces(names) if names else [str(size)])
 
     def braces(self, names):
         words = ["{"]
@@ -157,7 +170,9 @@ class Maker:
         atoms, sets = ([side for side in sides if side[2].is_set == wanted] for wanted in (False, True))
         operator = self.random.choice([5, 5, 6, 7] + [8, 8, 9, 10] * bool(sets))
         right = self.random.choice(sets if operator > 7 else atoms + [None])
-        left = self.random.choice(sets if operator > 8 else atoms + [None])
+        # two attributes have one list, or none of them has a list with a name; a constant fits any
+        fit = [side for side in (sets if operator > 8 else atoms) if not right or side[2].list is right[2].list]
+        left = self.random.choice(fit + [None] * (operator < 9))
         signs = {5: ["="], 6: ["<"], 7: ["<="], 8: ["in"], 9: ["subset"], 10: ["proper", "subset"]}
         (first, a), (second, b) = self.side(left, right), self.side(right, left)
         return first + signs[operator] + second, (operator, a, b)
@@ -195,22 +210,26 @@ class Maker:
             self.attributes(number, most)
         for _ in range(self.random.choice([1, 1, 2, 3, 16])):
             self.holder(0)
+            self.maybe_declare()
         for _ in range(self.random.choice([1, 1, 2, 8])):
             self.rules.permissions.append(self.name(self.rules.permissions))
             self.add("permission", self.written(self.rules.permissions[-1]))
         for number in self.random.sample([1, 2], 2):
             for _ in range(self.random.choice([0, 0, 1, 2, 32])):
                 self.holder(number)
+                self.maybe_declare()
         headings = [["open", "session"], ["change", "session"], ["make", "item"], ["change", "item"]]
         headings += [["allow", self.written(permission)] for permission in self.rules.permissions]
         formulas = [heading + [":"] + self.formula(number) for number, heading in enumerate(headings)]
         self.random.shuffle(formulas)
         for words in formulas:
             self.add(*words)
+            self.maybe_declare()
             if self.new and self.random.random() < 0.3:
                 self.add(*self.expectation())
         if self.new and self.random.random() < 0.3:
             self.words[:0] = self.expectation()
+        self.finish_lists()
         return self.rules
 
     def spaced(self):
@@ -219,7 +238,7 @@ class Maker:
         blanks = [" "] * 20 + ["  ", "\t", "\n", "\n  ", "\r\n", " # user x\n", "#\n\n"]
         for word in self.words:
             between = self.random.choice(blanks)
-            if word in ("user", "session", "item", "permission", "open", "change", "make", "allow", "expect") and self.random.random() < 0.5:
+            if word in ("list", "user", "session", "item", "permission", "open", "change", "make", "allow", "expect") and self.random.random() < 0.5:
                 between = "\n"
             if text and between == " " and self.random.random() < 0.5 and (word in ":,={}()." or text[-1] in ":,={}()."):
                 between = ""
@@ -229,14 +248,14 @@ class Maker:
 
 def text(seed, new=False):
     """a text and the bytes of its file"""
-    maker = Maker(seed, new)
+    maker = Maker(seed, new, new)
     rules = maker.make()
     return maker.spaced(), rules.file()
 
 
 def file(seed):
     """the bytes of a rule file whose nodes are of all kinds and refer to any earlier ones"""
-    maker = Maker(seed, False)
+    maker = Maker(seed, False, True)
     maker.make()
     for heading, nodes in enumerate(maker.rules.formulas):
         maker.allowed = ALLOWED[min(heading, 4)]

@@ -5,6 +5,7 @@ FILE` after it where needed, then what it prints, standard error first, and `[ex
 line, a line `...` for any lines; a row of lines that begin with `~` in place of a blank stands for a leak's steps, of which any that replay will
 do, as many as are stored. `file NAME` begins a file, each of its lines after `| `; `file NAME hex` one of bytes; `file NAME of OTHER` a copy of
 another, in which each line `N| TEXT` is put in place of line N."""
+import glob
 import json
 import multiprocessing
 import os
@@ -55,6 +56,12 @@ def content(*path):
 def put(data, *path):
     with open(os.path.join(*path), "wb") as file:
         file.write(data)
+
+
+def texts():
+    """the stored texts but the example of a text with an error"""
+    found = glob.glob("examples/*.rules.txt") + glob.glob("tests/vectors/policies/*.rules.txt")
+    return sorted(set(found) - {"examples/branch.rules.txt"})
 
 
 def seen(outputs):

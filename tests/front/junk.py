@@ -1,6 +1,5 @@
 """Any bytes will do as a text, a rule file, steps, questions or names: the program ends with 0, 1 or 2, never by a panic or a signal, prints
 nothing that a terminal obeys, and each place it names is inside the text. `junk.py [HOW_MANY]`; the exit status is 1 where anything is wrong."""
-import glob
 import json
 import os
 import random
@@ -13,7 +12,7 @@ import harness
 
 MANY = int(sys.argv[1]) if len(sys.argv) > 1 else 1000
 MARKS = list(":,={}().<$!>&|\"#") + ["<="]
-WORDS = generate.RESERVED + generate.LATER + MARKS + ["anna", "role", "clerk", "17", "0", "9" * 20, '"a b"', "é", "会"]
+WORDS = generate.RESERVED + generate.LATER + MARKS + ["anna", "role", "clerk", "17", "0", "5", "9" * 20, '"a b"', "é", "会"]
 CHARACTERS = ["\0", "\x1b[31m", "\u202e", "\ufeff", "\u0301", "\U0001f600", "\x85", "\u2028", "\t", "\r", "\"", "#", "\x7f", "\u00a0", "\u0663", "²"]
 OBEYED = re.compile("[␛\x00-\x09\x0b-\x1f\x7f-\x9f\u200e\u200f\u2028-\u202e\u2066-\u2069]")
 EXAMPLE = "wholesaler.rules.txt"
@@ -53,7 +52,8 @@ def mutated(rng, text):
 
 def deep(rng):
     """one word very often: no depth of parentheses, no length of a line may end the program"""
-    word = rng.choice(["(", "not ", "(not ", "{", "\"", "let a = ", "true and ", "a", "1", "user u\n", "item\n", "é", ".", "new "])
+    words = ["(", "not ", "(not ", "{", "\"", "let a = ", "true and ", "a", "1", "user u\n", "item\n", "list a = 2\n", "list ", "é", ".", "new "]
+    word = rng.choice(words)
     head = rng.choice(["", "permission p\nallow p: ", "user u\npermission p\nopen session: true\nallow p: "])
     return head + word * rng.choice([1, 65, 1000, 200000])
 
@@ -115,9 +115,9 @@ def judged(command, data, found):
 
 
 def main():
-    texts = [harness.content(path).decode() for path in glob.glob("examples/*.rules.txt") + glob.glob("tests/vectors/policies/*.rules.txt")]
+    texts = [harness.content(path).decode() for path in [*harness.texts(), "examples/branch.rules.txt"]]
     texts += [generate.text(seed, True)[0] for seed in range(20)] + [STEPS] * 8
-    files = [generate.file(seed) for seed in range(20)] + [harness.content("examples/counter.rules")]
+    files = [generate.file(seed) for seed in range(20)] + [harness.content("examples", name) for name in ("counter.rules", "branch.rules")]
     with tempfile.TemporaryDirectory() as folder:
         for name, data in ((EXAMPLE, harness.content("examples", EXAMPLE)), ("file.rules", files[0]), ("steps.txt", STEPS.encode())):
             harness.put(data, folder, name)

@@ -11,7 +11,8 @@ import harness
 
 FUNCTION = re.compile(r"^pub fn (\w+)\(.*?^\}", re.M | re.S)
 STRING = re.compile(r'"((?:[^"\\]|\\.)*)"')
-SAID = re.compile(r"^(?:\S+|standard input)(?::\d+:\d+)?: (?:error|warning): (.*)$|^rules: (.*)$|^note: \S+?:\d+:\d+: (.*)$", re.M)
+# a warning of the text that `--names` gives has a place after its severity
+SAID = re.compile(r"^(?:\S+|standard input)(?::\d+:\d+)?: (?:error|warning): (?:\S+:\d+:\d+: )?(.*)$|^rules: (.*)$|^note: \S+?:\d+:\d+: (.*)$", re.M)
 
 
 def pattern(string):

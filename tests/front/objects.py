@@ -54,6 +54,15 @@ check swapped.rules.txt --strict
 check examples/counter.rules
 check missing.rules.txt
 check policies/nine.rules.txt
+check examples/branch.rules.txt
+check examples/branch.rules
+check examples/branch_mended.rules.txt
+ask examples/branch.rules user0 permission0
+ask examples/branch_mended.rules.txt otto post on invoice
+explain examples/branch_mended.rules.txt otto post on invoice
+assemble examples/branch_mended.rules.txt -o mended.rules
+list mended.rules
+list examples/branch.rules
 replay wholesaler.rules.txt steps.txt
 replay wholesaler.rules.txt other.txt
 replay wholesaler.rules.txt other.txt for importer agree

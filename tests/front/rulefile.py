@@ -1,9 +1,19 @@
-"""Rules and the rule file of them, bit by bit as paper 01 lays it out."""
+"""Rules and the rule file of them, bit by bit as paper 01 lays it out, with the list numbers of paper 02."""
+
+
+class List:
+    """a list with a name; `fixed` is the number that the text gives it, or None"""
+
+    def __init__(self, name, size, names, fixed):
+        self.name, self.size, self.names, self.fixed = name, size, names, fixed
+        self.number = None
 
 
 class Attribute:
-    def __init__(self, name, is_set, size, names):
-        self.name, self.is_set, self.size, self.names = name, is_set, size, names
+    """`list` is the list with a name that it uses, or None"""
+
+    def __init__(self, name, is_set, size, names, list=None):
+        self.name, self.is_set, self.size, self.names, self.list = name, is_set, size, names, list
 
     def width(self):
         return self.size if self.is_set else (self.size - 1).bit_length()
@@ -46,7 +56,8 @@ class Rules:
         for attribute in sum(self.attributes, []):
             bits.put(1, int(attribute.is_set))
             bits.put(5, attribute.size)
-            bits.put(6, 0)
+            bits.put(5, attribute.list.number if attribute.list else 0)
+            bits.put(1, 0)
         for number, holders in enumerate(self.holders):
             for _, user, codes in holders:
                 if number == 1:

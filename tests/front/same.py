@@ -1,7 +1,6 @@
 """The front and the second program give the same bytes: of all stored texts, and of generated ones, whose bytes the generator knows too. What the
 front lists, of generated rule files and of texts with their names, is assembled again by both, to the same bytes. `same.py SECOND [HOW_MANY]`; the
 exit status is 1 where anything differs."""
-import glob
 import os
 import subprocess
 import sys
@@ -68,7 +67,7 @@ def listed_with_names(seed):
 
 
 def main():
-    texts = sorted(glob.glob("examples/*.rules.txt") + glob.glob("tests/vectors/policies/*.rules.txt"))
+    texts = harness.texts()
     work = [(stored, path) for path in texts]
     work += [(generated, seed, False) for seed in range(MANY)]
     work += [(generated, seed, True) for seed in range(MANY // 4)]

@@ -1,7 +1,6 @@
 """Every verdict is the proved program's: for every user, session and anyone, every permission, every item and any item of the stored texts, and for
 some questions of generated ones, `rules ask` says what that program prints for the same question and file. Every leak's steps, in words, are read
 back by `rules replay` to the same rows, and carried out. `verdicts.py PROGRAM [HOW_MANY]`; the exit status is 1 where one differs."""
-import glob
 import json
 import random
 import subprocess
@@ -92,7 +91,7 @@ def generated(seed):
 
 
 def main():
-    paths = sorted(glob.glob("examples/*.rules.txt") + glob.glob("tests/vectors/policies/*.rules.txt")) + ["examples/counter.rules"]
+    paths = harness.texts() + ["examples/counter.rules"]
     results = harness.each(told, paths) + harness.each(generated, range(MANY))
     wrong = sum((faults for _, faults in results), [])
     print("\n".join(wrong[:20] + [f"{sum(asked for asked, _ in results)} questions of {len(results)} rules, {len(wrong)} answers wrong"]))

@@ -1,4 +1,5 @@
-"""files.py FOLDER: rule files of growing size up to the largest legal one, whose nodes compare attributes."""
+"""files.py FOLDER: rule files of growing size up to the largest legal one, whose nodes compare a constant with an attribute (nodesNN), two attributes
+with list 0 throughout (plainNN), or two attributes where each has a list number (listsNN)."""
 import sys
 
 
@@ -8,18 +9,22 @@ def packed(fields):
     return bytes(int(bits[k:k + 8], 2) for k in range(0, len(bits), 8))
 
 
-def rules(nodes):
-    """the largest counts, and so many nodes in each of the 12 formulas: a constant compared with a holder that the formula may use"""
+def rules(nodes, first, lists):
+    """the largest counts, and so many nodes in each of the 12 formulas: an operand compared with a holder that the formula may use. The attributes of
+    each class have the list numbers in turn"""
     fields = [(4, 8), (4, 8), (4, 8), (5, 16), (6, 32), (6, 32), (4, 8), (7, 0)]
-    fields += [(1, 0), (5, 2), (6, 0)] * 24
+    for _ in range(3):
+        for k in range(8):
+            fields += [(1, 0), (5, 2), (5, lists[k % len(lists)]), (1, 0)]
     fields += [(8, 170)] * 16 + [(4, 3), (8, 85)] * 32 + [(8, 15)] * 32
     for formula in range(12):
         holder = 2 if formula < 2 else 1
         fields.append((8, nodes))
-        fields += [(4, 5), (8, 160 + 3), (8, 32 * holder + 7)] * nodes
+        fields += [(4, 5), (8, 160 + 3 if first is None else 32 * holder + first), (8, 32 * holder + 7)] * nodes
     return packed(fields)
 
 
-for nodes in (1, 8, 16, 32, 64):
-    with open(f"{sys.argv[1]}/nodes{nodes:02}.rules", "wb") as out:
-        out.write(rules(nodes))
+for name, first, lists in (("nodes", None, [0]), ("plain", 3, [0]), ("lists", 3, [1, 2, 3, 4])):
+    for nodes in (1, 8, 16, 32, 64):
+        with open(f"{sys.argv[1]}/{name}{nodes:02}.rules", "wb") as out:
+            out.write(rules(nodes, first, lists))

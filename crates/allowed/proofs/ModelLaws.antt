@@ -98,7 +98,7 @@ model-same p q a b c d = rw (a, b, c, d) refl
 -- list numbers make no difference either
 
 holder-unlisted : (p : Policy) (h : ℕ) → ofHolder (unlistedPolicy p .lists) h ≡ unlisted (ofHolder (p .lists) h)
-unfolding unlistedPolicy ofHolder
+unfolding ofHolder
 holder-unlisted p h = go (eqb h 0) (leb h 2)
   where
     go : (a b : Bool) → cond a (unlisted (p .lists .ofUser)) (cond b (unlisted (p .lists .ofSession)) (unlisted (p .lists .ofItem)))
@@ -108,11 +108,11 @@ holder-unlisted p h = go (eqb h 0) (leb h 2)
     go false false = refl
 
 says-unlisted : (p : Policy) (f : ℕ) (h : Holders) → says (unlistedPolicy p) f h ≡ says p f h
-unfolding says unlistedPolicy
+unfolding says
 says-unlisted p f h = holds-same (p .lists) (unlistedPolicy p .lists) (holder-unlisted p) h (getD (p .formulas) f [])
 
 pub model-unlisted : (p : Policy) → modelOf (unlistedPolicy p) ≡ modelOf p
-unfolding modelOf unlistedPolicy userValue
+unfolding modelOf userValue
 model-unlisted p =
     λ i.
     record {

@@ -5,7 +5,7 @@ use Rattle.policy.specs.Policy.{unlisted, Policy}
 use Rattle.allowed.specs.Allowed.{modelOf}
 
 -- the same rules with every attribute of list 0
-unfoldable pub unlistedPolicy : Policy → Policy
+abbrev pub unlistedPolicy : Policy → Policy
 unlistedPolicy p =
     record {
       head = p .head;

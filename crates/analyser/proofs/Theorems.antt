@@ -22,6 +22,7 @@ use Rattle.steps.specs.Step.{stepIn}
 use Rattle.steps.proofs.Files.{file-sound}
 use Rattle.steps.proofs.Theorems.{step-is-the-table, files-are-bytes}
 use Rattle.starting.specs.Start.{beginning}
+use Rattle.starting.proofs.StartLaws.{started-unlisted}
 use Rattle.starting.proofs.Theorems.{start-is-exact}
 use Rattle.replay.specs.Question.{partsOf, whoOf, whichOf, asks}
 use Rattle.replay.proofs.Asked.{of-asked, of-parts}
@@ -32,7 +33,7 @@ use Rattle.analyser.specs.Claims.{Demand3, SafeIsNever, FileNumbersComeF
 use Rattle.analyser.proofs.Widths.{beginning-below}
 use Rattle.analyser.proofs.Asked.{asks-something, asked-who, asked-which}
 use Rattle.analyser.proofs.Decides.{refused-none, rules-same}
-use Rattle.analyser.proofs.Unlisted.{started-unlisted, replayed-unlisted, told-unlisted, never-unlisted, needed-unlisted}
+use Rattle.analyser.proofs.Unlisted.{replayed-unlisted, told-unlisted, never-unlisted, needed-unlisted}
 use Rattle.analyser.proofs.Starts.{brought-of, starts-could}
 use Rattle.analyser.proofs.Numbers.{Came, unread, nine, ten, eleven, judged, came, asks-is, decided-two, is-of-file, is-either, is-empty, is-nine, is-ten, is-eleven, is-decided, is-judged}
 

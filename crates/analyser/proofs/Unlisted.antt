@@ -1,5 +1,5 @@
--- List numbers do not matter to what is told of rules. In order: how many values and rows there are; starts, questions and replays; answers.
-use mathlib.Core.Path.{_≡_, refl, sym, ap, ap₂, subst}
+-- List numbers do not matter to what is told of rules. In order: how many values and rows there are; replays; what can never be granted; answers.
+use mathlib.Core.Path.{_≡_, sym, ap, ap₂, subst}
 use mathlib.Core.Bool.{not, cond}
 use mathlib.Core.Logic.{_↔_}
 use mathlib.Core.List.{List}
@@ -9,13 +9,17 @@ use Rattle.policy.specs.Policy.{Policy}
 use Rattle.policy.proofs.Laws.{width-unlisted}
 use Rattle.rules.specs.Answers.{rules}
 use Rattle.runs.specs.Model.{Model}
+use Rattle.runs.specs.State.{State}
+use Rattle.runs.specs.Step.{Step}
 use Rattle.runs.specs.Grant.{Who, Which, NoStepFits}
 use Rattle.verdict.specs.Verdict.{allBrought, pairs, leaks, values}
 use Rattle.allowed.specs.Allowed.{modelOf}
 use Rattle.allowed.specs.Claims.{unlistedPolicy}
 use Rattle.allowed.proofs.Theorems.{list-numbers-do-not-matter}
-use Rattle.live.specs.Lent.{lentAs, refused as refusedAfter}
-use Rattle.starting.specs.Start.{nothingGiven, started, beginning}
+use Rattle.live.specs.Lent.{After, lentAs, refused as refusedAfter}
+use Rattle.starting.specs.Start.{nothingGiven, beginning}
+use Rattle.starting.proofs.StartLaws.{started-unlisted}
+use Rattle.starting.proofs.Beginning.{beginning-unlisted}
 use Rattle.replay.specs.Question.{partsOf, whoOf, whichOf, partsAsk, asks}
 use Rattle.replay.specs.Replay.{played, replayed}
 use Rattle.analyser.specs.Told.{safeVerdict, leakVerdict, refused}
@@ -27,48 +31,47 @@ module _ (p : Policy) where
   model = list-numbers-do-not-matter p
 
   session-values : sessionValues (unlistedPolicy p) ≡ sessionValues p
-  unfolding sessionValues unlistedPolicy
+  unfolding sessionValues
   session-values = ap (λ (w : ℕ). 2 ^ w) (width-unlisted (p .lists .ofSession))
 
   item-values : itemValues (unlistedPolicy p) ≡ itemValues p
-  unfolding itemValues unlistedPolicy
+  unfolding itemValues
   item-values = ap (λ (w : ℕ). 2 ^ w) (width-unlisted (p .lists .ofItem))
 
   pub needed-unlisted : rowsNeeded (unlistedPolicy p) ≡ rowsNeeded p
   unfolding rowsNeeded
   needed-unlisted = ap₂ (λ (n k : ℕ). n + k * (n + 1) + 1) session-values item-values
 
-  -- a start reads no attribute
-  pub started-unlisted : (sessions items : List ℕ) → started (rules (unlistedPolicy p)) sessions items ≡ started (rules p) sessions items
-  unfolding started unlistedPolicy
-  started-unlisted sessions items = refl
-
   pub replayed-unlisted : (question rows sessions items : List ℕ)
       → replayed (rules (unlistedPolicy p)) question rows sessions items ≡ replayed (rules p) question rows sessions items
-  unfolding replayed started asks partsAsk unlistedPolicy
+  unfolding replayed asks partsAsk
   replayed-unlisted question rows sessions items =
-      let s = started (rules p) sessions items in
       let none = refusedAfter 10 (lentAs sessions items nothingGiven) in
-      ap (λ (m : Model). cond (asks p question) (played m (partsOf question) rows (s .refusal) (s .lent)) none) model
+      ap₂ (λ (m : Model) (s : After). cond (asks p question) (played m (partsOf question) rows (s .refusal) (s .lent)) none) model
+      (started-unlisted p sessions items)
 
   pub never-unlisted : (who : Who) (which : Which) (permission : ℕ) → Never (unlistedPolicy p) who which permission ↔ Never p who which permission
-  unfolding beginning unlistedPolicy
-  never-unlisted who which permission = (
-    λ n steps. subst (λ (m : Model). NoStepFits m (beginning p) who which permission steps) model (n steps),
-    λ n steps. subst (λ (m : Model). NoStepFits m (beginning p) who which permission steps) (sym model) (n steps),
-  )
+  never-unlisted who which permission =
+      let at : Model → State → List Step → Type 0 = λ m s steps. NoStepFits m s who which permission steps in (
+        λ n steps.
+            subst (λ (m : Model). at m (beginning p) steps) model
+            (subst (λ (s : State). at (modelOf (unlistedPolicy p)) s steps) (beginning-unlisted p) (n steps)),
+        λ n steps.
+            subst (λ (s : State). at (modelOf (unlistedPolicy p)) s steps) (sym (beginning-unlisted p))
+            (subst (λ (m : Model). at m (beginning p) steps) (sym model) (n steps)),
+      )
 
   brought-unlisted : startsBrought (unlistedPolicy p) ≡ startsBrought p
-  unfolding startsBrought beginning unlistedPolicy
-  brought-unlisted = ap₂ (λ (m : Model) (n : ℕ). allBrought m n (beginning p .sessions)) model session-values
+  unfolding startsBrought
+  brought-unlisted = λ i. allBrought (model i) (session-values i) (beginning-unlisted p i .sessions)
 
   decided-unlisted : (question : List ℕ) → decided (unlistedPolicy p) question ≡ decided p question
-  unfolding decided beginning unlistedPolicy
+  unfolding decided
   decided-unlisted question =
       let q = partsOf question in
-      let s = beginning p in
       λ i.
       let m = model i in
+      let s = beginning-unlisted p i in
       let n = session-values i in
       let k = item-values i in
       record {
@@ -79,7 +82,7 @@ module _ (p : Policy) where
       }
 
   pub told-unlisted : (question : List ℕ) (room : ℕ) → told (rules (unlistedPolicy p)) question room ≡ told (rules p) question room
-  unfolding told asks partsAsk unlistedPolicy
+  unfolding told asks partsAsk
   told-unlisted question room =
       λ i.
       cond (not (brought-unlisted i)) (refused 9)

@@ -7,6 +7,7 @@ use lib.ListN.{length, getD, length-map, List·getD-eq-default}
 use Rattle.policy.specs.Policy.{Session, Policy}
 use Rattle.lists.specs.Sound.{startingSession}
 use Rattle.runs.specs.State.{closed, opened, begin, sessionAt, itemAt}
+use Rattle.allowed.specs.Claims.{unlistedPolicy}
 use Rattle.starting.specs.Start.{beginning}
 
 pub map-at : {A B : Type 0} (f : A → B) (l : List A) (d : A) (e : B) (k : ℕ) → k < length l → getD (map f l) k e ≡ f (getD l k d)
@@ -18,6 +19,11 @@ module _ (p : Policy) where
   pub beginning-is : beginning p ≡ begin (map (λ (t : Session). (t .user, t .value)) (p .sessions)) (p .items)
   unfolding beginning
   beginning-is = refl
+
+  -- it has nothing of the attributes
+  pub beginning-unlisted : beginning (unlistedPolicy p) ≡ beginning p
+  unfolding beginning
+  beginning-unlisted = refl
 
   pub beginning-items : beginning p .items ≡ p .items
   unfolding beginning begin

@@ -1,5 +1,5 @@
 -- Laws of starting. In order: cells over the front of others, one more of them at a time; the cells of the starting sessions and items, with
--- none, one more and how many; what starting answers.
+-- none, one more and how many; what starting answers; list numbers do not matter.
 use mathlib.Core.Path.{_≡_, refl, sym, ap, _∙_}
 use mathlib.Core.List.{List, [], _∷_, _++_, map, append-assoc}
 use Prim.Native.Nat.{ℕ, suc, _+_, _≤_, _<_}
@@ -9,7 +9,7 @@ use borrow.Author.Tests.{le-leb, lt-leb}
 use lib.Dec.{leb}
 use lib.ListN.{length, drop, getD, set, length-append, length-drop, length-map}
 use lib.Seq.{drop-cons, set-at}
-use Rattle.policy.specs.Policy.{Session}
+use Rattle.policy.specs.Policy.{Session, Policy}
 use Rattle.policy.specs.Rules.{sessionsOf, valuesOf, policyOf, noRules}
 use Rattle.policy.specs.declared.Rules.{Rules}
 use Rattle.policy.specs.declared.Sessions.{Sessions}
@@ -18,6 +18,7 @@ use Rattle.policy.proofs.Laws.{values-none, values-next, values-length, session
 use Rattle.rules.specs.Answers.{Answer, refusal, rules, beside}
 use Rattle.rules.specs.declared.Reading.{Reading}
 use Rattle.rules.specs.declared.Reading.the-variants as Reading
+use Rattle.allowed.specs.Claims.{unlistedPolicy}
 use Rattle.cells.specs.Cell.{openCell, itemCell}
 use Rattle.live.specs.Lent.{After, lentAs, leaves, refused, done, tested}
 use Rattle.live.specs.declared.Stepped.{Stepped}
@@ -145,3 +146,8 @@ told sessions items e d = ap (λ (z : Stepped). leaves (z .outcome) (z .next) se
 -- what starting with the file's rules leaves, the file's starting leaves
 pub as-read : {a : Answer} (r : Rules) → a ≡ rules (policyOf r) → (sessions items : List ℕ) → started (rules (policyOf r)) sessions items ≡ started a sessions items
 as-read r e sessions items = ap (λ (b : Answer). started b sessions items) (sym e)
+
+-- a start reads no attribute
+pub started-unlisted : (p : Policy) (sessions items : List ℕ) → started (rules (unlistedPolicy p)) sessions items ≡ started (rules p) sessions items
+unfolding started
+started-unlisted p sessions items = refl

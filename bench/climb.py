@@ -59,11 +59,10 @@ def changes(old, new, bits, length, by_last):
     return padded(nodes, length)
 
 
-def question_and_file(session, item, length, users=16, listed=False):
-    """any session, starting item 0, permission 0; session and item widths from 1 to 8; at least so many nodes a formula. Listed: every attribute has
-    its own list number"""
+def question_and_file(session, item, length, users=16):
+    """any session, starting item 0, permission 0; session and item widths from 1 to 8; at least so many nodes a formula"""
     fields = [(4, 0), (4, session), (4, item), (5, users), (6, 0), (6, 1), (4, 1), (7, 0)]
-    fields += [(12, 2 << 6 | (k + 1 if listed else 0) << 1) for k in range(session + item)]
+    fields += [(12, 0b000010000000)] * (session + item)
     fields += [(item, 0)]
     for nodes in (starts(NEW_SESSION, session, length), changes(SESSION, NEW_SESSION, session, length, 0),
                   starts(NEW_ITEM, item, length), changes(ITEM, NEW_ITEM, item, length, session), [(0, 0, 0)]):

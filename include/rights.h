@@ -19,7 +19,7 @@
 #ifndef RIGHTS_H
 #define RIGHTS_H
 
-/* raised where numbers, rows, cells or codes change: 2 has list numbers, with 18 and 19 */
+/* raised where numbers, rows, cells or codes change: 2 has list numbers in rule files, with 18 and 19; files of version 1 read as they did */
 #define RIGHTS_VERSION 2
 
 #include <stddef.h>

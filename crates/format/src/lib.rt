@@ -53,14 +53,15 @@ pub fn take(s: &[u8], at: Cursor, w: usize) -> Taken
 pub fn judged(at: Cursor, holds: bool, n: u8) -> Cursor
     ensures { λ r. ⌜ r ≡ judgedOf at holds n ⌝ }
 {
+    let number = at.number;
+    let pos = at.pos;
+    if number != 0 {
+        return Cursor { number, pos };
+    }
     if holds {
-        return at;
+        return Cursor { number, pos };
     }
-    if at.number == 0 {
-        let pos = at.pos;
-        return Cursor { number: n, pos };
-    }
-    at
+    Cursor { number: n, pos }
 }
 
 // Whether x is from lo up to, not including, end.

@@ -9,7 +9,7 @@ put-range-requires : tie.Need-put-range-requires
 put-range-requires c κs = omega arith
 
 put-value-requires : tie.Need-put-value-requires
-put-value-requires c κs = omega arith
+put-value-requires c κs = (omega arith, c .before .before .before .before .before .before .pre .1)
 
 same-length : tie.Need-same-length
 same-length c = omega arith

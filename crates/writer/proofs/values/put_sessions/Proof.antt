@@ -15,12 +15,15 @@ use Rattle.writer.proofs.values.put_sessions.Statement.{statement}
 use Rattle.writer.proofs.values.put_sessions.Tie as tie
 
 abbrev Inv-loop : tie.InvT-loop
-Inv-loop out₀ class users list values p₀ i₀ i-end out p i =
+Inv-loop out₀ class users list values width p₀ i₀ i-end out p i =
     (i ≤ i-end) × (length out ≡ length out₀) × (p .pos ≤ p₀ .pos + 65029 * i)
     × Stores (rows i (λ _. sessionFormat users (attrsOf class))) (sessionsOf record { count = i; users = list; values = values }) out₀ out p₀ p
 
 abbrev μ-loop : tie.MeasureT-loop
-μ-loop out₀ class users list values p₀ i₀ i-end out p i = i-end - i
+μ-loop out₀ class users list values width p₀ i₀ i-end out p i = i-end - i
+
+class-width-requires : tie.Need-class-width-requires Inv-loop μ-loop
+class-width-requires c κs = tt
 
 cast-i-end : tie.Need-cast-i-end Inv-loop μ-loop
 cast-i-end c = omega arith
@@ -41,7 +44,7 @@ byte-at-requires-2 : tie.Need-byte-at-requires-2 Inv-loop μ-loop
 byte-at-requires-2 c κs = tt
 
 put-session-requires : tie.Need-put-session-requires Inv-loop μ-loop
-put-session-requires c κs = omega arith
+put-session-requires c κs = (omega arith, c .before .before .before .before .before .before .before .before .class-width .ensures .0)
 
 add-i : tie.Need-add-i Inv-loop μ-loop
 add-i c = omega arith
@@ -56,7 +59,7 @@ loop-again c =
       omega arith,
       omega arith,
       omega arith,
-      rw (sessions-next (k .before .before .before .before .before .before .before .before .before .before .before .before .args .sessions) (l .i))
+      rw (sessions-next (k .before .before .before .before .before .before .before .before .before .before .before .before .before .args .sessions) (l .i))
           (stores-rows-turn _ (l .i) (sessions-length _) (l .inv .3)
           (rw (k .before .before .before .byte-at .ensures, k .before .byte-at2 .ensures) at (k .put-session .ensures .0))),
     )
@@ -67,7 +70,7 @@ same-length c = omega arith
 returns : tie.Need-returns Inv-loop μ-loop
 returns c =
     let l = c .before .loop in
-    let e : l .i ≡ c .before .before .before .before .before .before .args .sessions .count = omega arith in
+    let e : l .i ≡ c .before .before .before .before .before .before .before .args .sessions .count = omega arith in
     (rw e at (l .inv .3), omega arith)
 
 pub put-sessions-spec : {M : Type 1} → statement M
@@ -76,6 +79,7 @@ put-sessions-spec =
     (tie.spec
     Inv-loop
     μ-loop
+    class-width-requires
     cast-i-end
     loop-holds
     slice-aggregate-byte-at

@@ -16,18 +16,18 @@ use Rattle.writer.proofs.values.put_value.Statement.{statement}
 use Rattle.writer.proofs.values.put_value.Tie as tie
 
 abbrev Inv-loop : tie.InvT-loop
-Inv-loop out₀ v kinds sizes rest₀ x₀ p₀ i₀ i-end out rest x p i =
+Inv-loop out₀ width₀ v kinds sizes rest₀ x₀ p₀ i₀ i-end out rest x p i =
     let class : Class = record { count = i-end; kinds = kinds; sizes = sizes; lists = [] } in
     (i ≤ i-end) × (length out ≡ length out₀) × (p .pos ≤ p₀ .pos + 255 * i) × (rest ≡ width (attrsFrom class i)) × Onward class x₀ out₀ p₀ i x out p
 
 abbrev μ-loop : tie.MeasureT-loop
-μ-loop out₀ v kinds sizes rest₀ x₀ p₀ i₀ i-end out rest x p i = i-end - i
+μ-loop out₀ width₀ v kinds sizes rest₀ x₀ p₀ i₀ i-end out rest x p i = i-end - i
 
 -- the attribute that was looked up is attribute i
 attr :
     (c : tie.After-byte-at2 Inv-loop μ-loop)
     → let l = c .before .before .before .before .before in
-    let class = withoutLists (l .before .before .before .before .before .before .args .class) in
+    let class = withoutLists (l .before .before .before .before .before .args .class) in
     _≡_ {A = Attr} (record { kind = c .before .before .byte-at .result; size = c .byte-at2 .result; list = 0 }) (attrAt class (l .loop .i))
 unfolding attrAt
 attr c = rw (c .before .before .byte-at .ensures, c .byte-at2 .ensures)
@@ -36,25 +36,23 @@ attr c = rw (c .before .before .byte-at .ensures, c .byte-at2 .ensures)
 wide :
     (c : tie.After-bits-for Inv-loop μ-loop)
     → let l = c .before .before .before .before .before .before in
-    let class = withoutLists (l .before .before .before .before .before .before .args .class) in
+    let class = withoutLists (l .before .before .before .before .before .args .class) in
     l .loop .rest ≡ c .bits-for .result + width (attrsFrom class (l .loop .i + 1))
 wide c =
     let t = c .before .before .before .before .before in
     let l = t .before in
-    let class = withoutLists (l .before .before .before .before .before .before .args .class) in
+    let class = withoutLists (l .before .before .before .before .before .args .class) in
     omega (arith, c .bits-for .ensures 0, from-width class (l .loop .i) (t .loop-test .taken) (attr (c .before)))
-
-class-width-requires : tie.Need-class-width-requires Inv-loop μ-loop
-class-width-requires c κs = tt
 
 cast-i-end : tie.Need-cast-i-end Inv-loop μ-loop
 cast-i-end c = omega arith
 
 loop-holds : tie.Need-loop-holds Inv-loop μ-loop
 loop-holds c =
-    let class = c .before .before .before .before .before .args .class in
+    let start = c .before .before .before .before in
+    let class = start .args .class in
     let bare = withoutLists class in
-    (omega arith, refl, omega arith, c .before .class-width .ensures .0 ∙ sym (width-any class) ∙ ap width (sym (from-all bare)), onward-begin bare)
+    (omega arith, refl, omega arith, start .pre .1 ∙ sym (width-any class) ∙ ap width (sym (from-all bare)), onward-begin bare)
 
 slice-aggregate-byte-at : tie.Need-slice-aggregate-byte-at Inv-loop μ-loop
 slice-aggregate-byte-at c = search needs
@@ -101,7 +99,7 @@ loop-again c =
     let m = k .before .before .before .before .before in
     let t = m .before .before .before .before .before in
     let l = t .before in
-    let class = withoutLists (l .before .before .before .before .before .before .args .class) in (
+    let class = withoutLists (l .before .before .before .before .before .args .class) in (
       omega arith,
       omega arith,
       omega arith,
@@ -120,7 +118,7 @@ returns : tie.Need-returns Inv-loop μ-loop
 returns c =
     let k = c .before .before in
     let l = k .before .before .before .loop in
-    let class = k .before .before .before .before .before .before .before .before .before .args .class in
+    let class = k .before .before .before .before .before .before .before .before .args .class in
     let e : l .i ≡ class .count = omega arith in
     (rw (value-any class) at (onward-end (withoutLists class) (rw e at (l .inv .4)) (k .put-field2 .ensures .0)), omega arith)
 
@@ -130,7 +128,6 @@ put-value-spec =
     (tie.spec
     Inv-loop
     μ-loop
-    class-width-requires
     cast-i-end
     loop-holds
     slice-aggregate-byte-at

@@ -15,12 +15,15 @@ use Rattle.writer.proofs.values.put_values.Statement.{statement}
 use Rattle.writer.proofs.values.put_values.Tie as tie
 
 abbrev Inv-loop : tie.InvT-loop
-Inv-loop out₀ class list p₀ i₀ i-end out p i =
+Inv-loop out₀ class list width p₀ i₀ i-end out p i =
     (i ≤ i-end) × (length out ≡ length out₀) × (p .pos ≤ p₀ .pos + 65025 * i)
     × Stores (rows i (λ _. valueFormat (attrsOf class))) (valuesOf record { count = i; values = list }) out₀ out p₀ p
 
 abbrev μ-loop : tie.MeasureT-loop
-μ-loop out₀ class list p₀ i₀ i-end out p i = i-end - i
+μ-loop out₀ class list width p₀ i₀ i-end out p i = i-end - i
+
+class-width-requires : tie.Need-class-width-requires Inv-loop μ-loop
+class-width-requires c κs = tt
 
 cast-i-end : tie.Need-cast-i-end Inv-loop μ-loop
 cast-i-end c = omega arith
@@ -35,7 +38,7 @@ byte-at-requires : tie.Need-byte-at-requires Inv-loop μ-loop
 byte-at-requires c κs = tt
 
 put-value-requires : tie.Need-put-value-requires Inv-loop μ-loop
-put-value-requires c κs = omega arith
+put-value-requires c κs = (omega arith, c .before .before .before .before .before .before .class-width .ensures .0)
 
 add-i : tie.Need-add-i Inv-loop μ-loop
 add-i c = omega arith
@@ -50,7 +53,7 @@ loop-again c =
       omega arith,
       omega arith,
       omega arith,
-      rw (values-next (k .before .before .before .before .before .before .before .before .before .args .values) (l .i))
+      rw (values-next (k .before .before .before .before .before .before .before .before .before .before .args .values) (l .i))
           (stores-rows-turn _ (l .i) (values-length _) (l .inv .3) (rw (k .before .byte-at .ensures) at (k .put-value .ensures .0))),
     )
 
@@ -60,7 +63,7 @@ same-length c = omega arith
 returns : tie.Need-returns Inv-loop μ-loop
 returns c =
     let l = c .before .loop in
-    let e : l .i ≡ c .before .before .before .before .before .args .values .count = omega arith in
+    let e : l .i ≡ c .before .before .before .before .before .before .args .values .count = omega arith in
     (rw e at (l .inv .3), omega arith)
 
 pub put-values-spec : {M : Type 1} → statement M
@@ -69,6 +72,7 @@ put-values-spec =
     (tie.spec
     Inv-loop
     μ-loop
+    class-width-requires
     cast-i-end
     loop-holds
     slice-aggregate-byte-at

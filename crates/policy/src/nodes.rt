@@ -47,11 +47,22 @@ fn of_holder(classes: Classes, h: u32) -> Class
     classes.item
 }
 
-// What an operand of a formula names: sort 0 an atomic attribute, 1 a set attribute, 2 a constant from 0 to 15, 3 none of these. Of an attribute
-// the list number is given too.
+// What an operand of a formula names: an attribute of a kind, a constant from 0 to 15, or nothing that may stand there. Of an attribute the list
+// number is given too.
 pub struct Operand {
     pub sort: u8,
     pub list: u8,
+}
+
+impl Operand {
+    // The sorts; those of attributes are their kinds.
+    pub const ATOMIC: u8 = 0;
+
+    pub const SET: u8 = 1;
+
+    pub const CONSTANT: u8 = 2;
+
+    pub const NOTHING: u8 = 3;
 }
 
 // What operand x of formula f names.
@@ -61,26 +72,32 @@ fn named_by(classes: Classes, f: usize, x: u32) -> Operand
     ensures { λ r. ⌜ (r .sort ≡ 2 → holderOf x ≡ 5) ⌝ }
     ensures { λ r. ⌜ (r .sort ≤ 1 → (holderOf x ≡ 5 → ⊥) × (r .list ≡ named (listsOf classes) x .list)) ⌝ }
 {
-    let none = Operand { sort: 3, list: 0 };
+    let nothing = Operand {
+        sort: Operand::NOTHING,
+        list: 0,
+    };
     let h = x / 32;
     let k = (x % 32) as usize;
     if h == 5 {
         if k < 16 {
-            return Operand { sort: 2, list: 0 };
+            return Operand {
+                sort: Operand::CONSTANT,
+                list: 0,
+            };
         }
-        return none;
+        return nothing;
     }
     if !may_use(f, h) {
-        return none;
+        return nothing;
     }
     let class = of_holder(classes, h);
     if class.count as usize <= k {
-        return none;
+        return nothing;
     }
     let kinds = class.kinds;
     let kind = byte_at(&kinds, k);
-    if 1 < kind {
-        return none;
+    if Operand::SET < kind {
+        return nothing;
     }
     let lists = class.lists;
     Operand {
@@ -89,14 +106,14 @@ fn named_by(classes: Classes, f: usize, x: u32) -> Operand
     }
 }
 
-// Whether a sort is that of an atomic value: an attribute (0) or a constant (2).
+// Whether a sort is that of an atomic value: an attribute's or a constant's.
 fn is_atomic(sort: u8) -> bool
     ensures { λ r. ⌜ r ≡ (eqb sort 0 || eqb sort 2) ⌝ }
 {
-    if sort == 0 {
+    if sort == Operand::ATOMIC {
         return true;
     }
-    sort == 2
+    sort == Operand::CONSTANT
 }
 
 // Whether operator op, 5 to 10, takes operands of these sorts.
@@ -111,9 +128,13 @@ fn takes_values(op: u32, first: u8, second: u8) -> bool
         if op <= 7 {
             return is_atomic(second);
         }
-        return second == 1;
+        return second == Operand::SET;
     }
-    if first == 1 { second == 1 } else { false }
+    if first == Operand::SET {
+        second == Operand::SET
+    } else {
+        false
+    }
 }
 
 // Whether operator op, 0 to 4, takes a and b in node i: nothing, or earlier nodes.
@@ -157,10 +178,10 @@ pub fn node_fault(classes: Classes, f: usize, i: usize, x: u32) -> u8
         return 8;
     }
     // a constant fits any list
-    if p.sort == 2 {
+    if p.sort == Operand::CONSTANT {
         return 0;
     }
-    if q.sort == 2 {
+    if q.sort == Operand::CONSTANT {
         return 0;
     }
     if p.list == q.list { 0 } else { 19 }

@@ -1,7 +1,7 @@
 //! Reading comparisons: `session.role = clerk`, `item.ledger in session.ledgers`.
 
 use crate::command_messages::{did_you_mean, meant, not_in_list};
-use crate::differing::{differ, mended};
+use crate::differing::{differ, lists_too};
 use crate::formula::Body;
 use crate::holders::in_list;
 use crate::messages;
@@ -191,6 +191,10 @@ impl Reader {
             self.fault(term.place, messages::no_list(&term.text), messages::one_attribute());
             return Ok(None);
         }
+        if let Some(term) = [&left, &right].into_iter().find(|term| self.is_list(body, term)) {
+            self.fault(term.place, messages::is_list(&term.text), messages::side_form());
+            return Ok(None);
+        }
         if kinds != comparison.sets() {
             self.unfit(&left, &right, comparison, kinds);
             return Ok(None);
@@ -215,13 +219,23 @@ impl Reader {
         }
     }
 
+    /// Whether a side is the name of a list, where it is no value of any list and no part.
+    fn is_list(&self, body: &Body, term: &Term) -> bool {
+        let name = match &term.value {
+            Value::Name(name) if !body.has_part(name) => name,
+            _ => return false,
+        };
+        let value = self.rules.attributes.iter().flatten().any(|attribute| attribute.names.contains(name));
+        !value && self.rules.lists.iter().any(|list| list.name == *name)
+    }
+
     /// One side is a set and should be one value, or the other way round.
     fn unfit(&mut self, left: &Term, right: &Term, comparison: Comparison, kinds: [bool; 2]) {
         let (operator, needed) = (comparison.words(), comparison.sets());
         let (term, set) = if kinds[0] != needed[0] { (left, kinds[0]) } else { (right, kinds[1]) };
         let message = if set { messages::is_set(&term.text, operator) } else { messages::is_one(&term.text, operator) };
         let help = match (&left.value, &right.value) {
-            (Value::Known(a), Value::Known(b)) if differ(&self.rules, [*a, *b]) => mended(&self.rules, comparison, [*a, *b]),
+            (Value::Known(a), Value::Known(b)) if differ(&self.rules, [*a, *b]) => lists_too(&self.rules, comparison, [*a, *b]),
             _ => messages::instead(&way([&left.text, &right.text], kinds, comparison)),
         };
         self.fault(term.place, message, help);

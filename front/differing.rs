@@ -3,7 +3,7 @@
 use crate::comparison::way;
 use crate::file;
 use crate::messages;
-use crate::model::{Attribute, Comparison, Heading, Node, Owner, Rules, Side, CLASSES, OWNERS};
+use crate::model::{Attribute, Comparison, Heading, Node, Owner, Rules, Side, CLASSES};
 use crate::phrase;
 use crate::reader::Reader;
 use crate::report::Place;
@@ -48,35 +48,55 @@ fn list_name(rules: &Rules, side: Side) -> Option<String> {
     Some(phrase::name(&rules.lists[list].name))
 }
 
-/// How to mend a comparison of different lists: with another attribute of the same holder that uses the list of the other side, one that fits the
-/// operator if there is one; or with one list for both sides.
-pub fn mended(rules: &Rules, comparison: Comparison, sides: [Side; 2]) -> String {
-    let [left, right] = sides;
-    let others = instead(rules, left, right).map(|other| (other, [left, other]));
-    let others = others.chain(instead(rules, right, left).map(|other| (other, [other, right])));
-    let kinds = |sides: [Side; 2]| sides.map(|side| rules.attribute(side).map_or(false, |a| a.set));
-    let first = others.min_by_key(|(_, compared)| kinds(*compared) != comparison.sets());
-    if let Some((other, compared)) = first {
-        let [left, right] = compared.map(|side| phrase::side(rules, side, side));
-        let list = list_name(rules, other).unwrap_or_default();
-        return messages::other_attribute(&phrase::side(rules, other, other), &list, &way([&left, &right], kinds(compared), comparison));
-    }
-    for (named, in_place) in [(0, 1), (1, 0)] {
-        let attribute = rules.attribute(sides[in_place]).filter(|a| a.list.is_none());
-        if let (Some(name), Some(Attribute { set, place, .. })) = (list_name(rules, sides[named]), attribute) {
-            return messages::same_list(if *set { "set" } else { "one" }, &name, place.line);
-        }
-    }
-    messages::one_list().to_string()
+/// How to mend a comparison of different lists.
+fn mended(rules: &Rules, comparison: Comparison, sides: [Side; 2]) -> String {
+    used_in_place(rules, sides).or_else(|| other_attribute(rules, comparison, sides)).unwrap_or_else(|| messages::one_list().to_string())
 }
 
-/// The attributes of the holder of one side that use the list of the kept side, if it has a name.
+/// One side has a list with a name, and the list of the other, written in place, has the same values: it can use that list too.
+fn used_in_place(rules: &Rules, sides: [Side; 2]) -> Option<String> {
+    for (named, in_place) in [(0, 1), (1, 0)] {
+        let list = rules.attribute(sides[named]).and_then(|a| a.list).map(|list| &rules.lists[list]);
+        let attribute = rules.attribute(sides[in_place]).filter(|a| a.list.is_none());
+        if let (Some(list), Some(Attribute { set, size, names, place, .. })) = (list, attribute) {
+            if *size == list.size && *names == list.names {
+                return Some(messages::same_list(if *set { "set" } else { "one" }, &phrase::name(&list.name), place.line));
+            }
+        }
+    }
+    None
+}
+
+/// The comparison with another attribute of the same holder in place of one side, one that uses the list of the other side. A proposed value is never
+/// left out of a formula, and the operator stays, but that `=` with a set is `in`. First comes an attribute with the name of the side that is kept.
+pub fn other_attribute(rules: &Rules, comparison: Comparison, sides: [Side; 2]) -> Option<String> {
+    let [left, right] = sides;
+    let others = instead(rules, left, right).map(|other| (left, other, [left, other]));
+    let others = others.chain(instead(rules, right, left).map(|other| (right, other, [other, right])));
+    let kinds = |sides: [Side; 2]| sides.map(|side| rules.attribute(side).map_or(false, |a| a.set));
+    let fits = |sides| kinds(sides) == comparison.sets() || comparison == Comparison::Equal && kinds(sides) != [true, true];
+    let name = |side| rules.attribute(side).map(|a| &a.name);
+    let fitting = others.filter(|(_, _, compared)| fits(*compared));
+    let (_, other, compared) = fitting.min_by_key(|(kept, other, compared)| (kinds(*compared) != comparison.sets(), name(*kept) != name(*other)))?;
+    let [left, right] = compared.map(|side| phrase::side(rules, side, side));
+    let way = way([&left, &right], kinds(compared), comparison);
+    Some(messages::other_attribute(&phrase::side(rules, other, other), &list_name(rules, other)?, &way))
+}
+
+/// The attributes of the holder of one side, as it is, that use the list of the kept side, if it has a name.
 fn instead(rules: &Rules, kept: Side, left_out: Side) -> impl Iterator<Item = Side> + '_ {
     let list = rules.attribute(kept).and_then(|attribute| attribute.list);
-    let owners = OWNERS.into_iter().filter(move |owner| matches!(left_out, Side::Attribute(of, _) if of == *owner));
+    let as_is = [Owner::User, Owner::Session, Owner::Item];
+    let owners = as_is.into_iter().filter(move |owner| matches!(left_out, Side::Attribute(of, _) if of == *owner));
     let attributes = owners.flat_map(move |owner| (0..rules.of(owner.class()).len()).map(move |number| Side::Attribute(owner, number)));
     let uses = move |side: &Side| list.is_some() && rules.attribute(*side).map_or(false, |attribute| attribute.list == list);
     attributes.filter(move |side| *side != kept && uses(side))
+}
+
+/// The help where two sides do not fit the operator and use different lists.
+pub fn lists_too(rules: &Rules, comparison: Comparison, sides: [Side; 2]) -> String {
+    let [left, right] = sides.map(|side| of_list(rules, side));
+    other_attribute(rules, comparison, sides).unwrap_or_else(|| messages::lists_too(&left, &right))
 }
 
 /// Where a file has what the library refuses it for with 18 or 19, if that is found.

@@ -17,15 +17,19 @@ pub fn number_taken(number: usize, name: &str) -> String {
 }
 
 pub fn two_sizes(number: usize, name: &str, other: usize, size: usize) -> String {
-    format!("the list `{name}` has the number {number} already, and {other} values, not {size}: one list cannot have two sizes (number 18)")
+    format!("the list `{name}`, of {other} values, has the number {number} already, and this one has {size} values (number 18)")
 }
 
 pub fn taken_in(line: usize) -> String {
-    format!("it is declared in line {line}; leave this number out, or write another one")
+    format!("it is declared in line {line}; two lists never have one number: leave this number out, or write another one")
 }
 
 pub fn declare_list(name: &str) -> String {
     format!("declare it before this, `list {name} = {{VALUE, VALUE}}`, or write the values here: `{{VALUE, VALUE}}`")
+}
+
+pub fn only_the_name(name: &str) -> String {
+    format!("the word `list` stands only where a list is declared: write `of {name}` here")
 }
 
 pub fn set_list_size(most: usize, name: &str, size: usize) -> String {
@@ -71,7 +75,7 @@ pub fn of_place(side: &str, line: usize) -> String {
 }
 
 pub fn other_attribute(side: &str, list: &str, way: &str) -> String {
-    format!("`{side}` is of list `{list}`: write `{way}`; or use one list for both attributes")
+    format!("`{side}` is of list `{list}`: did you mean `{way}`? If both attributes mean the same values, use one list for both")
 }
 
 pub fn same_list(kind: &str, name: &str, line: usize) -> String {
@@ -79,7 +83,15 @@ pub fn same_list(kind: &str, name: &str, line: usize) -> String {
 }
 
 pub fn one_list() -> &'static str {
-    "declare one list and use it for both attributes, or compare with another attribute"
+    "compare with an attribute of the same list; or use one list for both attributes, if both mean the same values"
+}
+
+pub fn lists_too(left: &str, right: &str) -> String {
+    format!("they use different lists too, {left} and {right}: compare attributes of one list")
+}
+
+pub fn is_list(name: &str) -> String {
+    format!("`{name}` is a list, and lists are not compared")
 }
 
 // rule files that the library refuses
@@ -103,4 +115,16 @@ pub fn side_in_file(owner: &str, number: usize, list: usize) -> String {
 
 pub fn unused_list(name: &str) -> String {
     format!("no attribute uses the list `{name}`")
+}
+
+pub fn drop_list() -> &'static str {
+    "use it or leave it out; lists that fix no number can then take other numbers"
+}
+
+pub fn name_for_list(name: &str) -> String {
+    format!("this list has one value, `{name}`, and a list is called so too")
+}
+
+pub fn list_meant(kind: &str, name: &str) -> String {
+    format!("if that list is meant, write `{kind} of {name}`")
 }

@@ -14,6 +14,8 @@ const LISTS: usize = 31;
 /// So many values a list can have, and one that a set uses.
 const VALUES: usize = 16;
 const SET_VALUES: usize = 8;
+/// What stands after `one of` and `set of`.
+const SOURCE: &str = "a list, a number or `{`";
 
 /// The values of a list; with a fault in it its size is 0, and any value is taken for one of it.
 #[derive(Default)]
@@ -120,10 +122,13 @@ impl Reader {
     /// The list of an attribute: which one with a name it is, if it is one, and its values.
     pub fn list_used(&mut self, set: bool) -> Read<(Option<usize>, Values)> {
         let known = self.rules.lists.iter().any(|list| self.sees(0, &list.name));
+        if let Some(word) = self.list_in_quotes() {
+            return Err(self.misplaced_for(SOURCE, messages::in_quotes(&word)));
+        }
         if !self.sees_name(0) || self.resumes() && !known {
             let most = if set { SET_VALUES } else { VALUES };
             let form = Form { most, before: if set { "set of" } else { "one of" }, sizes: messages::list_sizes() };
-            return Ok((None, self.values_of_list(&form, "a list, a number or `{`")?));
+            return Ok((None, self.values_of_list(&form, SOURCE)?));
         }
         let named = self.name("a list")?;
         let found = self.rules.lists.iter().enumerate().find(|(_, list)| list.name == named.name);
@@ -138,12 +143,21 @@ impl Reader {
         Ok((Some(number), Values { size, names }))
     }
 
+    /// The present word, if it is a word of the language that stands without quotes where a list of that name is meant.
+    fn list_in_quotes(&self) -> Option<String> {
+        match &self.word().token {
+            Token::Name(word) if !self.sees_name(0) && !self.word().first && self.rules.lists.iter().any(|list| list.name == *word) => Some(word.clone()),
+            _ => None,
+        }
+    }
+
     /// A name that no list has so far. What follows it, if no declaration begins there, is passed over.
     fn no_list(&mut self, named: &Named) -> Read<()> {
         if !self.unread.has("list", &named.name) {
             let names: Vec<&str> = self.rules.lists.iter().map(|list| list.name.as_str()).collect();
             let help = match (self.comes_later(&["list"], &named.name), nearest(&named.name, names.iter().copied())) {
                 (Some(line), _) => messages::comes_later(line),
+                (None, _) if named.name == "list" && names.iter().any(|name| self.sees(0, name)) => messages::only_the_name(&self.source(self.word().place)),
                 (None, Some(name)) => meant(&phrase::name(name)),
                 (None, None) if self.sees(0, ",") => messages::braces().to_string(),
                 (None, None) if names.is_empty() => messages::declare_list(&named.shown()),

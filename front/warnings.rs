@@ -2,7 +2,7 @@
 
 use crate::command_messages::list_is;
 use crate::messages;
-use crate::model::{Attribute, Comparison, Node, Rules, Side, CLASSES};
+use crate::model::{Attribute, Comparison, List, Node, Rules, Side, CLASSES};
 use crate::names::listed;
 use crate::phrase;
 use crate::reader::Named;
@@ -31,6 +31,7 @@ pub fn of(rules: &Rules, seen: &Seen) -> Vec<Report> {
     reports.extend(seen.unused_parts.iter().map(|part| unused(part.place, messages::unused_part(&part.shown()))));
     reports.extend(unused_attributes(rules));
     reports.extend(unused_lists(rules));
+    reports.extend(named_like_lists(rules));
     reports.extend(orders(rules, &seen.compared));
     reports
 }
@@ -96,7 +97,21 @@ fn unused_attributes(rules: &Rules) -> Vec<Report> {
 fn unused_lists(rules: &Rules) -> Vec<Report> {
     let used = |number: usize| rules.attributes.iter().flatten().any(|a| a.list == Some(number));
     let lists = rules.lists.iter().enumerate().filter(|(number, _)| !used(*number));
-    lists.map(|(_, list)| unused(list.place, messages::unused_list(&phrase::name(&list.name)))).collect()
+    let warned = |list: &List| Report::warning(list.place, messages::unused_list(&phrase::name(&list.name)), Some(messages::drop_list().to_string()));
+    lists.map(|(_, list)| warned(list)).collect()
+}
+
+/// An attribute with a list in place of one value that is called like a list: `one of {role}`.
+fn named_like_lists(rules: &Rules) -> Vec<Report> {
+    let mut reports = Vec::new();
+    for attribute in rules.attributes.iter().flatten().filter(|a| a.list.is_none() && a.names.len() == 1) {
+        let name = &attribute.names[0];
+        if rules.lists.iter().any(|list| list.name == *name) {
+            let (name, kind) = (phrase::name(name), if attribute.set { "set" } else { "one" });
+            reports.push(Report::warning(attribute.place, messages::name_for_list(&name), Some(messages::list_meant(kind, &name))));
+        }
+    }
+    reports
 }
 
 fn class_and_number(side: &Side) -> Option<(usize, usize)> {

@@ -113,7 +113,7 @@ def records(path):
             else:
                 raise ValueError(f"line {number}: {word}")
             for file in files:
-                yield b"\0" + sized(file), f"ok {len(file)} same" if answer == "ok" else f"refused {answer}"
+                yield b"\0" + sized(file), f"read, ok {len(file)} same" if answer == "ok" else f"refused {answer}"
 
 
 def main():

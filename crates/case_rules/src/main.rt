@@ -1,5 +1,6 @@
 // Runs the stored cases of tests/vectors/rules.txt, which make.py has turned into records on standard input, and prints each answer:
-// `refused n`, or `ok length` and whether the bytes written are the right ones and all others are as they were.
+// `refused n`, or `ok length` and whether the bytes written are the right ones and all others are as they were. Of a file that is read, `read,` stands
+// before what writing its rules back gives.
 ghost use Prim.Native.Nat.{_+_, _≤_, _<_};
 ghost use lib.ListN.{length};
 
@@ -90,7 +91,10 @@ fn read_case(file: &[u8]) {
     let p = rules::read_rules(file);
     let answer = p.answer;
     match answer {
-        Reading::Accepted => write_case(p.rules, 4096, file),
+        Reading::Accepted => {
+            io::write_all(STDOUT_FILENO, b" read,");
+            write_case(p.rules, 4096, file);
+        }
         Reading::Refused(n) => print_refused(n),
     }
 }

@@ -19,7 +19,8 @@
 #ifndef RIGHTS_H
 #define RIGHTS_H
 
-/* raised where numbers, rows, cells or codes change: 2 has list numbers in rule files, with 18 and 19; files of version 1 read as they did */
+/* raised where the layout of a rule file, numbers, rows, cells or codes change: 2 has list numbers in rule files, with 18 and 19. What had no
+   RIGHTS_VERSION was 1; files that it accepted read as they did. No call returns it. */
 #define RIGHTS_VERSION 2
 
 #include <stddef.h>

@@ -73,8 +73,8 @@ fn read_attrs(s: &[u8], at: Cursor, n: u8, known: &mut [u8]) -> ClassRead
     ClassRead { at: p, class }
 }
 
-// The n attributes of a class, at most 8 bits wide; none where a number was given. Where none was given, `known` has the
-// sizes of the lists before them, and then those after them.
+// The n attributes of a class, at most 8 bits wide; no attributes where a number was given. `known` has the sizes of the lists before them, and where
+// no number was given then those after them.
 fn read_class(s: &[u8], at: Cursor, n: u8, known: &mut [u8]) -> ClassRead
     requires { ⌜ (n ≤ 8) × (at .pos < 2 ^ 38) ⌝ }
     ensures { λ r. ⌜ resOf (r .at) (attrsOf (r .class)) ≡ from at (classFormat (now (known .entry)) n .read (now (s .entry))) ⌝ }

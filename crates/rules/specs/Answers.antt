@@ -1,4 +1,4 @@
--- What the published calls answer, with paper 01's number for each case.
+-- What the published calls answer, with the papers' number for each case.
 -- Reading gives the rules or the first number 1 to 8, 18 or 19; writing gives the bytes or the number that reading would give, then 11
 -- [01:The rule file, "Writing fills the front of a lent byte slice"; When a number is given instead].
 -- Assumes nothing.

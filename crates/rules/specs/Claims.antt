@@ -80,8 +80,7 @@ listIn s k = numberAt s (40 + 12 * k + 6) 5
 abbrev pub attributesIn : List ℕ → ℕ
 attributesIn s = numberAt s 0 4 + numberAt s 4 4 + numberAt s 8 4
 
--- [02:T-01, "A file with 0 throughout reads as before"]: where every list number is 0, neither 18 nor 19 is given, and nothing else is
--- asked of list numbers
+-- [02:T-01, "A file with 0 throughout reads as before"]: where every list number is 0, neither 18 nor 19 is given
 pub record ListZeroFitsAll : Type 0 where
   pub read : (s : List ℕ) (n : ℕ) → ((k : ℕ) → k < attributesIn s → listIn s k ≡ 0) → reading s ≡ refusal n → n ≤ 8
   pub written : (r : Rules) (n : ℕ) → ((k : ℕ) → attributeOf (policyOf r) k .list ≡ 0) → writing (policyOf r) ≡ refused n → n ≤ 8

@@ -11,15 +11,18 @@ use lib.Dec.{eqb}
 use lib.ListN.{length, drop}
 use Rattle.format.specs.Format.{Res, ok, bad}
 use Rattle.format.specs.File.{Bytes, refused, bytes, readFile, writeFile}
-use Rattle.format.specs.Steps.{resOf, Stores}
+use Rattle.format.specs.Steps.{resOf}
 use Rattle.format.specs.declared.Cursor.{Cursor}
-use Rattle.format.proofs.Fault.{BadAt, fault-none, none-fault}
+use Rattle.format.proofs.Fault.{BadAt}
+use Rattle.format.proofs.Bounded.{file-short}
 use Rattle.format.proofs.Chain.{res-good, res-bad}
-use Rattle.format.proofs.Round.{read-judged, refused-judged}
+use Rattle.format.proofs.Round.{write-read, read-judged, refused-judged}
 use Rattle.policy.specs.Policy.{Policy}
 use Rattle.policy.specs.File.{policyFormat}
+use Rattle.policy.proofs.Bound.{bounded-policy}
 use Rattle.policy.proofs.PolicyLaw.{lawful-policy}
 use Rattle.rules.specs.Answers.{refusal, rules, answerOf, answered, reading, writing, writtenOf, filled}
+use Rattle.rules.specs.Claims.{largestFile}
 use Rattle.rules.specs.declared.Reading.{Reading}
 use Rattle.rules.specs.declared.Reading.the-variants as Reading
 use Rattle.rules.specs.declared.Written.the-variants as Written
@@ -83,11 +86,6 @@ whole-bytes pos n z = go (ℕ-discrete pos (8 * n))
     go (yes e) = let d : pos / 8 ≡ n = omega arith in eq-eqb (pos / 8) n d ∙ sym (eq-eqb pos (8 * n) e)
     go (no e) = ne-eqb (pos / 8) n (λ d. e (omega arith)) ∙ sym (ne-eqb pos (8 * n) e)
 
--- no bytes at the front change nothing
-pub none-before : (l out : List ℕ) → length l ≡ 0 → l ++ out ≡ out
-none-before [] out z = refl
-none-before (x ∷ l) out z = absurd (omega arith)
-
 pub refused-written : (b : Bytes) (n room : ℕ) → b ≡ refused n → Written.Refused n ≡ writtenOf b room
 unfolding writtenOf
 refused-written b n room e = rw e refl
@@ -113,9 +111,10 @@ module _ (b : Bytes) (l : List ℕ) (e : b ≡ bytes l) where
   unfolding filled
   long-filled out h = rw e (simp (le-leb (length l) (length out) h))
 
--- two passes over the same policy give the same number
-pub passes-agree : (p : Policy) {o o′ u u′ : List ℕ} {c₀ c₁ c₂ : Cursor} → Stores policyFormat p o o′ c₀ c₁ → Stores policyFormat p u u′ c₀ c₂ → c₁ .number ≡ 0 → c₂ .number ≡ 0
-passes-agree p {c₁ = c₁} {c₂ = c₂} g h z = none-fault (c₂ .number) (h .fault ∙ sym (g .fault) ∙ fault-none (c₁ .number) z)
+-- a file that is written is no longer than the largest
+pub written-short : (p : Policy) (l : List ℕ) → writing p ≡ bytes l → length l ≤ largestFile
+written-short p l e =
+    file-short policyFormat bounded-policy largestFile (omega arith) l p (8 * length l) (write-read policyFormat lawful-policy p l (sym (writing-is p) ∙ e))
 
 -- what a caller knows from the answer
 module _ (s : List ℕ) (a : Reading) (p : Policy) (e : answerOf a p ≡ reading s) where

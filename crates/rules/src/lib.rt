@@ -1,9 +1,10 @@
 // Rule files: rules are read from bytes, or refused by their first number; and rules are written to bytes, or refused by the number
 // that reading them would give.
 ghost use mathlib.Core.Path.{_≡_};
-ghost use Prim.Native.Nat.{_*_, _^_, _<_};
+ghost use mathlib.Core.List.{_++_};
+ghost use Prim.Native.Nat.{_*_, _^_, _≤_, _<_};
 ghost use lib.Dec.{eqb};
-ghost use lib.ListN.{length};
+ghost use lib.ListN.{length, take, drop};
 ghost use Rattle.policy.specs.Rules.{policyOf};
 ghost use Rattle.rules.specs.Answers.{answerOf, reading, beside, writing, writtenOf, filled};
 use format::judged;
@@ -65,21 +66,32 @@ pub fn read_rules(file: &[u8]) -> Parsed
     }
 }
 
+// The first n bytes of `from` are put in place of the first n of `out`.
+fn copy_front<'a>(out: &'a mut [u8], from: &'a [u8], n: usize)
+    requires { ⌜ (n ≤ length (now out)) × (n ≤ length (now from)) ⌝ }
+    ensures { λ r. ⌜ now (out .exit) ≡ take n (now (from .entry)) ++ drop n (now (out .entry)) ⌝ }
+{
+    for i in 0..n {
+        out[i] = from[i];
+    }
+}
+
 // Writes rules to the front of `out`, leaves the rest, and returns the length; or the number that reading them would give, or 11 where
 // `out` is too short, with `out` as it was. Any numbers may stand in `rules`: none is cut down to fit.
 pub fn write_rules(rules: Rules, out: &mut [u8]) -> Written
     ensures { λ r. ⌜ r ≡ writtenOf (writing (policyOf rules)) (length (now (out .entry))) ⌝ }
     ensures { λ r. ⌜ now (out .exit) ≡ filled (writing (policyOf rules)) (now (out .entry)) ⌝ }
 {
-    // Over no bytes the pass only judges: nothing is written before it is known that all can be.
-    let judged = writer::put_policy(&mut out[0..0], rules);
-    if judged.number != 0 {
-        return Written::Refused(judged.number);
+    // The file is made in as many bytes as the largest one has. `out` is written when it is known that all can be.
+    let mut file: [u8; 2069] = [0; 2069];
+    let last = writer::put_policy(&mut file, rules);
+    if last.number != 0 {
+        return Written::Refused(last.number);
     }
-    let n = (judged.pos + 7) / 8;
+    let n = (last.pos + 7) / 8;
     if out.len() < n {
         return Written::Refused(11);
     }
-    writer::put_policy(out, rules);
+    copy_front(out, &file, n);
     Written::Length(n)
 }

@@ -69,7 +69,7 @@ fn used_in_place(rules: &Rules, sides: [Side; 2]) -> Option<String> {
 
 /// The comparison with another attribute of the same holder in place of one side, one that uses the list of the other side. A proposed value is never
 /// left out of a formula, and the operator stays, but that `=` with a set is `in`. First comes an attribute with the name of the side that is kept.
-pub fn other_attribute(rules: &Rules, comparison: Comparison, sides: [Side; 2]) -> Option<String> {
+fn other_attribute(rules: &Rules, comparison: Comparison, sides: [Side; 2]) -> Option<String> {
     let [left, right] = sides;
     let others = instead(rules, left, right).map(|other| (left, other, [left, other]));
     let others = others.chain(instead(rules, right, left).map(|other| (right, other, [other, right])));

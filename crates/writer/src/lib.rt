@@ -1,6 +1,6 @@
 // Writing rules, part by part in the file's order. Each part judges its fields and stores them, and gives the cursor after them; once a
-// number was given, every later part leaves the cursor as it is and stores nothing. A field that has no room is not stored, so
-// that over no bytes at all the same pass only judges.
+// number was given, every later part leaves the cursor as it is and stores nothing. A field that has no room is judged and
+// not stored.
 ghost use mathlib.Core.Path.{_≡_};
 ghost use Prim.Native.Nat.{_^_, _<_};
 ghost use Rattle.format.specs.Format.{Format};

@@ -14,15 +14,7 @@ pub enum Field {
     Absent,
 }
 
-// Byte k, or 0 past the end.
-fn byte_or_zero(s: &[u8], k: usize) -> u64
-    ensures { λ r. ⌜ r ≡ getD (now (s .entry)) k 0 ⌝ }
-    ensures { λ r. ⌜ r < 256 ⌝ }
-{
-    if k < s.len() { s[k] as u64 } else { 0 }
-}
-
-// The number of the four bytes from byte k on, with zeros past the end.
+// The number of the four bytes from byte k on, with zeros past the end. No other function looks at the bytes of a file that is read.
 fn window(s: &[u8], k: usize) -> u64
     requires { ⌜ k < 2 ^ 62 ⌝ }
     ensures { λ r. ⌜ r ≡ numberAt (now (s .entry)) (8 * k) 32 ⌝ }
@@ -34,11 +26,19 @@ fn window(s: &[u8], k: usize) -> u64
         let d = s[k + 3] as u64;
         return ((a * 256 + b) * 256 + c) * 256 + d;
     }
-    let a = byte_or_zero(s, k);
-    let b = byte_or_zero(s, k + 1);
-    let c = byte_or_zero(s, k + 2);
-    let d = byte_or_zero(s, k + 3);
-    ((a * 256 + b) * 256 + c) * 256 + d
+    if s.len() <= k {
+        return 0;
+    }
+    let a = s[k] as u64 * 16777216;
+    if s.len() <= k + 1 {
+        return a;
+    }
+    let b = s[k + 1] as u64 * 65536;
+    if s.len() <= k + 2 {
+        return a + b;
+    }
+    let c = s[k + 2] as u64 * 256;
+    a + b + c
 }
 
 // The field of w bits that begins at bit pos.

@@ -84,7 +84,7 @@ module _ {A : Type 0} where
       go true (no h) = ap (λ (x : Cursor). resOf x a) (judged-holds c n) ∙ res-is c a
       go false (no h) =
           let o : c .number ≡ 0 = omega arith in
-          ap (λ (x : Cursor). resOf x a) (judged-fails c n o) ∙ res-bad record { number = n; pos = c .pos } a z ∙ sym (from-good c (λ q. bad n q) o)
+          ap (λ (x : Cursor). resOf x a) (judged-fails c n o) ∙ res-bad record { number = n; pos = c .pos; taken = c .taken } a z ∙ sym (from-good c (λ q. bad n q) o)
 
   pub chain-check : (f : Format A) (t : A → Bool) (n : ℕ) (s : List ℕ) (c₀ c₁ : Cursor) (a : A) (b : Bool) → resOf c₁ a ≡ from c₀ (f .read s) → b ≡ t a → 0 < n
       → resOf (judged c₁ b n) a ≡ from c₀ (check f t n .read s)
@@ -103,21 +103,28 @@ unfolding field
 field-same w t u n s c h = from-same c _ _ (then-same (taken s (c .pos) w) _ _ (λ x q. ap (λ (b : Bool). tested b n x q) (h x)))
 
 -- what stands for a result, with 0 beside a number, is what the program gives for it
-pub taken-is : (t : Taken) (r : Res ℕ) → resOf (t .at) (t .value) ≡ r → (0 < t .at .number → t .value ≡ 0) → t ≡ takenOf r
+pub taken-is : (t : Taken) (r : Res ℕ) → resOf (t .at) (t .value) ≡ r → (0 < t .at .number → t .value ≡ 0) → t .at .taken ≡ t .at .pos → t ≡ takenOf r
 unfolding takenOf
-taken-is t r e v = go (decLt 0 (t .at .number))
+taken-is t r e v o = go (decLt 0 (t .at .number))
   where
+    q : ℕ
+    q = t .at .pos
+
     go : Dec (0 < t .at .number) → t ≡ takenOf r
-    go (yes h) = rw (sym e ∙ res-bad (t .at) (t .value) h) (ap (λ (x : ℕ). record { at = t .at; value = x }) (v h))
+    go (yes h) =
+        rw (sym e ∙ res-bad (t .at) (t .value) h)
+        (ap (λ (x : ℕ). record { at = t .at; value = x }) (v h) ∙ ap (λ (k : ℕ). record { at = record { number = t .at .number; pos = q; taken = k }; value = 0 }) o)
     go (no h) =
         let z : t .at .number ≡ 0 = omega arith in
-        rw (sym e ∙ res-good (t .at) (t .value) z) (ap (λ (n : ℕ). record { at = record { number = n; pos = t .at .pos }; value = t .value }) z)
+        rw (sym e ∙ res-good (t .at) (t .value) z)
+        (ap (λ (n : ℕ). record { at = record { number = n; pos = q; taken = t .at .taken }; value = t .value }) z
+        ∙ ap (λ (k : ℕ). record { at = record { number = 0; pos = q; taken = k }; value = t .value }) o)
 
 -- and it stands for that result, unless it is a refusal by 0
 res-taken : (t : Taken) (r : Res ℕ) → t ≡ takenOf r → ((n q : ℕ) → r ≡ bad n q → 0 < n) → resOf (t .at) (t .value) ≡ r
 unfolding takenOf
-res-taken t (ok x q) e h = rw e (res-good record { number = 0; pos = q } x refl)
-res-taken t (bad n q) e h = rw e (res-bad record { number = n; pos = q } 0 (h n q refl))
+res-taken t (ok x q) e h = rw e (res-good record { number = 0; pos = q; taken = q } x refl)
+res-taken t (bad n q) e h = rw e (res-bad record { number = n; pos = q; taken = q } 0 (h n q refl))
 
 -- a cursor adds no refusal by 0
 from-only : (c : Cursor) (k : ℕ → Res ℕ) → ((n q : ℕ) → k (c .pos) ≡ bad n q → 0 < n) → (n q : ℕ) → from c k ≡ bad n q → 0 < n

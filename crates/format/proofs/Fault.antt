@@ -1,7 +1,7 @@
 -- Laws of faults and results. In order: a test's fault, the first of two, the fault that a number stands for, a judged cursor, one result after another,
 -- a refusal.
 -- Not here: whole formats (Law).
-use mathlib.Core.Path.{_≡_, refl, sym, ap, _∙_}
+use mathlib.Core.Path.{_≡_, refl, sym, ap, _∙_, subst}
 use mathlib.Core.Bool.{Bool, true, false, cond}
 use mathlib.Core.Logic.{_⊎_, inl, inr}
 use mathlib.Core.List.{List}
@@ -14,7 +14,7 @@ use lib.Dec.{eqb}
 use lib.ListN.{length}
 use Rattle.bits.specs.Field.{numberAt}
 use Rattle.format.specs.Format.{Res, ok, bad, unless, first, tested, andThen, taken}
-use Rattle.format.specs.Steps.{judged, faultOf}
+use Rattle.format.specs.Steps.{judged, faultOf, Once}
 use Rattle.format.specs.declared.Cursor.{Cursor}
 
 pub unless-none : (b : Bool) (n : ℕ) → unless b n ≡ none → b ≡ true
@@ -90,7 +90,7 @@ judged-holds c n = either (eqb (c .number) 0)
     either true = refl
     either false = refl
 
-pub judged-fails : (c : Cursor) (n : ℕ) → c .number ≡ 0 → judged c false n ≡ record { number = n; pos = c .pos }
+pub judged-fails : (c : Cursor) (n : ℕ) → c .number ≡ 0 → judged c false n ≡ record { number = n; pos = c .pos; taken = c .taken }
 unfolding judged
 judged-fails c n z = simp (eq-eqb _ _ z)
 
@@ -105,6 +105,15 @@ judged-pos c b n = go b (decLt 0 (c .number))
     go true d = ap (λ (x : Cursor). x .pos) (judged-holds c n)
     go false (yes k) = ap (λ (x : Cursor). x .pos) (judged-before c false n k)
     go false (no k) = ap (λ (x : Cursor). x .pos) (judged-fails c n (omega arith))
+
+-- judging takes nothing
+pub judged-once : {s : List ℕ} {c c′ : Cursor} (b : Bool) (n : ℕ) → c′ ≡ judged c b n → Once s c → Once s c′
+judged-once {s} {c} {c′} b n e o = go b e (decLt 0 (c .number))
+  where
+    go : (b : Bool) → c′ ≡ judged c b n → Dec (0 < c .number) → Once s c′
+    go true e d = subst (Once s) (sym (e ∙ judged-holds c n)) o
+    go false e (yes k) = subst (Once s) (sym (e ∙ judged-before c false n k)) o
+    go false e (no k) = subst (Once s) (sym (e ∙ judged-fails c n (omega arith))) record { count = o .count; inside = o .inside }
 
 -- where no number came, the test held
 pub judged-true : (c : Cursor) (b : Bool) (n : ℕ) → 0 < n → judged c b n .number ≡ 0 → b ≡ true

@@ -5,8 +5,9 @@ use mathlib.Core.Path.{_≡_}
 use mathlib.Core.Bool.{Bool, cond}
 use mathlib.Core.List.{List}
 use mathlib.Core.Option.{Option, none, some}
-use Prim.Native.Nat.{ℕ, _+_, _-_, _^_, _≤_, _<_}
+use Prim.Native.Nat.{ℕ, _+_, _-_, _*_, _^_, _≤_, _<_}
 use lib.Dec.{eqb}
+use lib.ListN.{length}
 use Rattle.bits.specs.Packed.{widths, puts}
 use Rattle.format.specs.Format.{Res, ok, bad, Format, first, unlessFault}
 use Rattle.format.specs.declared.Cursor.{Cursor}
@@ -22,12 +23,17 @@ resOf c a = from c (ok a)
 
 -- a number that was read, as the program gives it: 0 where a refusal was given
 unfoldable pub takenOf : Res ℕ → Taken
-takenOf (ok x q) = record { at = record { number = 0; pos = q }; value = x }
-takenOf (bad n q) = record { at = record { number = n; pos = q }; value = 0 }
+takenOf (ok x q) = record { at = record { number = 0; pos = q; taken = q }; value = x }
+takenOf (bad n q) = record { at = record { number = n; pos = q; taken = q }; value = 0 }
 
 -- the cursor, with the number n unless the test holds or a number was given before
 unfoldable pub judged : Cursor → Bool → ℕ → Cursor
-judged c b n = cond (eqb (c .number) 0) (cond b c record { number = n; pos = c .pos }) c
+judged c b n = cond (eqb (c .number) 0) (cond b c record { number = n; pos = c .pos; taken = c .taken }) c
+
+-- the bits of s up to the place were taken, none of them twice: as many were taken as stand before the place [02:T-03]
+pub record Once (s : List ℕ) (c : Cursor) : Type 0 where
+  pub count : c .taken ≡ c .pos
+  pub inside : c .pos ≤ 8 * length s
 
 -- the fault that a number stands for: 0 is none
 unfoldable pub faultOf : ℕ → Option ℕ

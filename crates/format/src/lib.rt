@@ -3,17 +3,20 @@ ghost use mathlib.Core.Path.{_≡_};
 ghost use Prim.Native.Nat.{_+_, _*_, _^_, _≤_, _<_};
 ghost use lib.Dec.{ltb};
 ghost use Rattle.format.specs.Format.{Format, taken, field, within as withinOf};
-ghost use Rattle.format.specs.Steps.{from, takenOf, judged as judgedOf, Near, Stores};
+ghost use Rattle.format.specs.Steps.{from, takenOf, judged as judgedOf, Once, Near, Stores};
 
 pub mod bit_reader;
 
 use bit_reader::read_at;
 use bits::Field;
 
-// The place reached, in bits; or a refusal: its number, and the bits taken until it was judged. Number 0: none was given.
+// The place reached, in bits, and how many bits of the file were taken until then; or a refusal: its number, the place where it was judged, and
+// the bits taken until then. Number 0: none was given. In reading only `take` changes the place and the count, both alike; in writing only
+// `put_field` changes the place, and nothing is taken.
 pub struct Cursor {
     pub number: u8,
     pub pos: usize,
+    pub taken: usize,
 }
 
 // A number that was read, with the place after it.
@@ -24,28 +27,36 @@ pub struct Taken {
 
 // The next w bits; 0 beside a refusal.
 pub fn take(s: &[u8], at: Cursor, w: usize) -> Taken
-    requires { ⌜ (w ≤ 24) × (at .pos < 2 ^ 40) ⌝ }
+    requires { ⌜ (w ≤ 24) × (at .pos < 2 ^ 40) × Once (now s) at ⌝ }
     ensures { λ r. ⌜ r ≡ takenOf (from at (λ q. taken (now (s .entry)) q w)) ⌝ }
     ensures { λ r. ⌜ Near at (r .at) (r .value) w (2 ^ w) ⌝ }
+    ensures { λ r. ⌜ Once (now (s .entry)) (r .at) ⌝ }
 {
     if at.number != 0 {
         return Taken { at, value: 0 };
     }
     let found = read_at(s, at.pos, w);
-    let pos = found.at;
     let f = found.field;
     match f {
         Field::Value(x) => Taken {
-            at: Cursor { number: 0, pos },
+            at: Cursor {
+                number: 0,
+                pos: found.at,
+                taken: at.taken + w,
+            },
             value: x,
         },
-        Field::Absent => Taken {
-            at: Cursor {
-                number: 1,
-                pos: s.len() * 8,
-            },
-            value: 0,
-        },
+        Field::Absent => {
+            let end = s.len() * 8;
+            Taken {
+                at: Cursor {
+                    number: 1,
+                    pos: end,
+                    taken: at.taken + (end - at.pos),
+                },
+                value: 0,
+            }
+        }
     }
 }
 
@@ -55,13 +66,18 @@ pub fn judged(at: Cursor, holds: bool, n: u8) -> Cursor
 {
     let number = at.number;
     let pos = at.pos;
+    let taken = at.taken;
     if number != 0 {
-        return Cursor { number, pos };
+        return Cursor { number, pos, taken };
     }
     if holds {
-        return Cursor { number, pos };
+        return Cursor { number, pos, taken };
     }
-    Cursor { number: n, pos }
+    Cursor {
+        number: n,
+        pos,
+        taken,
+    }
 }
 
 // Whether x is from lo up to, not including, end.
@@ -73,9 +89,10 @@ pub fn within(lo: u64, end: u64, x: u64) -> bool
 
 // A field of w bits from lo up to, not including, end; any other number is refused with n. Beside a refusal the value is 0.
 pub fn read_field(s: &[u8], at: Cursor, w: usize, lo: u64, end: u64, n: u8) -> Taken
-    requires { ⌜ (w ≤ 24) × (at .pos < 2 ^ 40) × (0 < n) ⌝ }
+    requires { ⌜ (w ≤ 24) × (at .pos < 2 ^ 40) × (0 < n) × Once (now s) at ⌝ }
     ensures { λ r. ⌜ r ≡ takenOf (from at (field w (withinOf lo end) n .read (now (s .entry)))) ⌝ }
     ensures { λ r. ⌜ Near at (r .at) (r .value) w end ⌝ }
+    ensures { λ r. ⌜ Once (now (s .entry)) (r .at) ⌝ }
 {
     let t = take(s, at, w);
     let x = t.value;
@@ -109,5 +126,6 @@ pub fn put_field(out: &mut [u8], at: Cursor, w: u8, x: u64, holds: bool, n: u8) 
     Cursor {
         number: 0,
         pos: pos + w as usize,
+        taken: at.taken,
     }
 }

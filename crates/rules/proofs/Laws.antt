@@ -4,14 +4,14 @@ use mathlib.Core.Path.{_≡_, refl, sym, ap, _∙_}
 use mathlib.Core.List.{List, [], _∷_, _++_}
 use mathlib.Core.Option.{none, some}
 use Prim.Native.Nat.{ℕ, _*_, _/_, _%_, _≤_, _<_}
-use native.Mathlib.Decide.{ℕ-discrete}
+use native.Mathlib.Decide.{ℕ-discrete, decLt}
 use native.Mathlib.Omega.{arith}
 use borrow.Author.Tests.{le-leb, lt-leb, eq-eqb, ne-eqb}
 use lib.Dec.{eqb}
 use lib.ListN.{length, drop}
 use Rattle.format.specs.Format.{Res, ok, bad}
 use Rattle.format.specs.File.{Bytes, refused, bytes, readFile, writeFile}
-use Rattle.format.specs.Steps.{resOf}
+use Rattle.format.specs.Steps.{resOf, Once}
 use Rattle.format.specs.declared.Cursor.{Cursor}
 use Rattle.format.proofs.Fault.{BadAt}
 use Rattle.format.proofs.Bounded.{file-short}
@@ -21,7 +21,7 @@ use Rattle.policy.specs.Policy.{Policy}
 use Rattle.policy.specs.File.{policyFormat}
 use Rattle.policy.proofs.Bound.{bounded-policy}
 use Rattle.policy.proofs.PolicyLaw.{lawful-policy}
-use Rattle.rules.specs.Answers.{refusal, rules, answerOf, answered, reading, writing, writtenOf, filled}
+use Rattle.rules.specs.Answers.{refusal, rules, answerOf, answered, reading, bitsOf, bitsTaken, writing, writtenOf, filled}
 use Rattle.rules.specs.Claims.{largestFile}
 use Rattle.rules.specs.declared.Reading.{Reading}
 use Rattle.rules.specs.declared.Reading.the-variants as Reading
@@ -69,6 +69,14 @@ reading-judged s p e = reading-rules s p e (λ q f. read-judged policyFormat law
 pub writing-judged : (p : Policy) (n : ℕ) → writing p ≡ refused n → policyFormat .judge p ≡ some n
 writing-judged p n e = refused-judged policyFormat p n (sym (writing-is p) ∙ e)
 
+bits-of : (c : Cursor) (p : Policy) → bitsOf (resOf c p) ≡ c .pos
+unfolding bitsOf
+bits-of c p = go (decLt 0 (c .number))
+  where
+    go : Dec (0 < c .number) → bitsOf (resOf c p) ≡ c .pos
+    go (yes h) = rw (res-bad c p h) refl
+    go (no h) = rw (res-good c p (omega arith)) refl
+
 module _ (s : List ℕ) (c : Cursor) (p : Policy) (e : resOf c p ≡ readFile policyFormat s) where
   -- the last cursor has a number: it is the answer
   pub ends-refused : 0 < c .number → reading s ≡ refusal (c .number)
@@ -77,6 +85,11 @@ module _ (s : List ℕ) (c : Cursor) (p : Policy) (e : resOf c p ≡ readFile po
   -- it has none: what was read is the answer
   pub ends-read : c .number ≡ 0 → reading s ≡ rules p
   ends-read z = rules-reading s p (c .pos) (sym e ∙ res-good c p z)
+
+  -- and as many bits were taken as stand before its place
+  pub ends-bits : Once s c → c .taken ≡ bitsTaken s
+  unfolding bitsTaken
+  ends-bits o = o .count ∙ sym (bits-of c p) ∙ ap bitsOf e
 
 -- a place is the end of n bytes exactly when it is n whole bytes on
 pub whole-bytes : (pos n : ℕ) → pos % 8 ≡ 0 → eqb (pos / 8) n ≡ eqb pos (8 * n)

@@ -6,7 +6,7 @@ ghost use Prim.Native.Nat.{_*_, _^_, _≤_, _<_};
 ghost use lib.Dec.{eqb};
 ghost use lib.ListN.{length, take, drop};
 ghost use Rattle.policy.specs.Rules.{policyOf};
-ghost use Rattle.rules.specs.Answers.{answerOf, reading, beside, writing, writtenOf, filled};
+ghost use Rattle.rules.specs.Answers.{answerOf, reading, bitsTaken, beside, writing, writtenOf, filled};
 use format::judged;
 use format::read_field;
 use policy::Rules;
@@ -18,10 +18,11 @@ pub enum Reading {
     Refused(u8),
 }
 
-// The answer, and the rules beside it: those of the file, or where a number is given those of no file.
+// The answer, the rules beside it (those of the file, or where a number is given those of no file), and how many bits of the file were taken.
 pub struct Parsed {
     pub answer: Reading,
     pub rules: Rules,
+    pub bits: usize,
 }
 
 // What writing did: filled so many bytes, or nothing, for the number given.
@@ -41,11 +42,13 @@ fn at_end(s: &[u8], pos: usize) -> bool
     }
 }
 
-// Reads a file: its rules, or the file's number (1 to 8, 18 or 19: the first in reading order) and the rules of no file. The file is read once,
-// field by field.
+// Reads a file: its rules, or the file's number (1 to 8, 18 or 19: the first in reading order) and the rules of no file; and how many bits were taken:
+// with the rules or with 1 all bits of the file, with another number those up to and including the field that was judged. Every field is
+// taken once; what is looked at again is what was kept of it.
 pub fn read_rules(file: &[u8]) -> Parsed
     ensures { λ r. ⌜ answerOf (r .answer) (policyOf (r .rules)) ≡ reading (now (file .entry)) ⌝ }
     ensures { λ r. ⌜ r .rules ≡ beside (r .answer) (r .rules) ⌝ }
+    ensures { λ r. ⌜ r .bits ≡ bitsTaken (now (file .entry)) ⌝ }
 {
     let r = reader::read_policy(file);
     let at = r.at;
@@ -53,16 +56,19 @@ pub fn read_rules(file: &[u8]) -> Parsed
     let next = fill.at;
     let end = judged(next, at_end(file, next.pos), 3);
     let rules = r.rules;
+    let bits = end.taken;
     if end.number != 0 {
         let none = no_rules();
         return Parsed {
             answer: Reading::Refused(end.number),
             rules: none,
+            bits,
         };
     }
     Parsed {
         answer: Reading::Accepted,
         rules,
+        bits,
     }
 }
 

@@ -22,7 +22,7 @@ use writer_head::put_counts;
 
 // The whole file up to its filling bits.
 pub fn put_policy(out: &mut [u8], rules: Rules) -> Cursor
-    ensures { λ r. ⌜ Stores policyFormat (policyOf rules) (now (out .entry)) (now (out .exit)) record { number = 0; pos = 0 } r ⌝ }
+    ensures { λ r. ⌜ Stores policyFormat (policyOf rules) (now (out .entry)) (now (out .exit)) record { number = 0; pos = 0; taken = 0 } r ⌝ }
     ensures { λ r. ⌜ r .pos < 2 ^ 36 ⌝ }
 {
     let classes = rules.classes;
@@ -38,7 +38,12 @@ pub fn put_policy(out: &mut [u8], rules: Rules) -> Cursor
         items: items.count,
         permissions: rules.permissions,
     };
-    let a = put_counts(out, Cursor { number: 0, pos: 0 }, counts);
+    let start = Cursor {
+        number: 0,
+        pos: 0,
+        taken: 0,
+    };
+    let a = put_counts(out, start, counts);
     let b = put_classes(out, a, classes);
     let c = put_values(out, b, classes.user, users);
     let d = put_sessions(out, c, classes.session, users.count, sessions);

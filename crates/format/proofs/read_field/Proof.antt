@@ -6,9 +6,9 @@ use native.Mathlib.Omega.{arith}
 use borrow.Author.Needs.{needs}
 use lib.Pow.{pow-pos}
 use Rattle.format.specs.Format.{field, within}
-use Rattle.format.specs.Steps.{from, resOf}
+use Rattle.format.specs.Steps.{from, resOf, Once}
 use Rattle.format.specs.declared.Cursor.{Cursor}
-use Rattle.format.proofs.Fault.{judged-pos, judged-true}
+use Rattle.format.proofs.Fault.{judged-pos, judged-once, judged-true}
 use Rattle.format.proofs.Chain.{res-any, chain-field, taken-is, res-bits, within-true}
 use Rattle.format.proofs.read_field.Statement.{statement}
 use Rattle.format.proofs.read_field.Tie as tie
@@ -37,13 +37,16 @@ module _ (c : tie.After-judged) where
   place =
       let t = c .before .before .take in
       let e : c .judged .result .pos ≡ t .result .at .pos = ap (λ (x : Cursor). x .pos) (c .judged .ensures) ∙ judged-pos _ _ _ in
-      omega (arith, t .ensures .1 .place)
+      omega (arith, t .ensures .1 .0 .place)
+
+  counted : Once (c .before .before .before .before .args .s .now) (c .judged .result)
+  counted = judged-once _ _ (c .judged .ensures) (c .before .before .take .ensures .1 .1)
 
 returns : tie.Need-returns
 returns c =
     let k = c .before .before in (
-      taken-is _ _ (res-any (k .judged .result) _ (k .before .before .take .result .value) (omega arith) ∙ read k) (λ _. refl),
-      record { place = place k; fits = pow-pos (k .before .before .before .before .args .w); below = omega arith },
+      taken-is _ _ (res-any (k .judged .result) _ (k .before .before .take .result .value) (omega arith) ∙ read k) (λ _. refl) (counted k .count),
+      (record { place = place k; fits = pow-pos (k .before .before .before .before .args .w); below = omega arith }, counted k),
     )
 
 returns-2 : tie.Need-returns-2
@@ -54,8 +57,8 @@ returns-2 c =
     let b = k .before .within in
     let z : within (a .lo) (a .end) (t .result .value) ≡ true =
     sym (b .ensures) ∙ judged-true (t .result .at) (b .result) (a .n) (omega arith) (ap (λ (x : Cursor). x .number) (sym (k .judged .ensures)) ∙ c .if1 .left) in (
-      taken-is _ _ (read k) (λ h. absurd (omega arith)),
-      record { place = place k; fits = t .ensures .1 .fits; below = omega (arith, within-true (a .lo) (a .end) (t .result .value) z .1) },
+      taken-is _ _ (read k) (λ h. absurd (omega arith)) (counted k .count),
+      (record { place = place k; fits = t .ensures .1 .0 .fits; below = omega (arith, within-true (a .lo) (a .end) (t .result .value) z .1) }, counted k),
     )
 
 pub read-field-spec : {M : Type 1} → statement M

@@ -39,12 +39,13 @@ read-formulas-requires c κs =
       kh .read-counts .ensures .1 .0 .permissions,
       omega (
         arith,
-        c .read-values2 .ensures .1 .0,
-        kt .read-sessions .ensures .1 .0,
-        ku .read-values .ensures .1 .0,
-        kc .read-classes .ensures .1 .1,
-        kh .read-counts .ensures .1 .1,
+        c .read-values2 .ensures .1 .0 .0,
+        kt .read-sessions .ensures .1 .0 .0,
+        ku .read-values .ensures .1 .0 .0,
+        kc .read-classes .ensures .1 .1 .0,
+        kh .read-counts .ensures .1 .1 .0,
       ),
+      c .read-values2 .ensures .1 .1,
     )
 
 -- the rules that were read, before it is known whether a number was given
@@ -77,7 +78,7 @@ module _ (c : tie.After-read-formulas) where
       let kh = kc .before in
       let a = kh .before .before .args in
       let s = a .s .now in
-      read-counted (kh .read-counts .result) (asRead c) (ku .read-values .ensures .1 .1) (kt .read-sessions .ensures .1 .1) (ki .read-values2 .ensures .1 .1) refl s _ _
+      read-counted (kh .read-counts .result) (asRead c) (ku .read-values .ensures .1 .0 .1) (kt .read-sessions .ensures .1 .0 .1) (ki .read-values2 .ensures .1 .0 .1) refl s _ _
       (chain-via _ _ _ s _ _ _
       (chain-pair _ _ s _ _ _ _ _ (kh .read-counts .ensures .0)
       (chain-pair _ _ s _ _ _ _ _ (kc .read-classes .ensures .0)
@@ -95,12 +96,12 @@ module _ (c : tie.After-read-formulas) where
       let kh = kc .before in
       omega (
         arith,
-        c .read-formulas .ensures .1,
-        ki .read-values2 .ensures .1 .0,
-        kt .read-sessions .ensures .1 .0,
-        ku .read-values .ensures .1 .0,
-        kc .read-classes .ensures .1 .1,
-        kh .read-counts .ensures .1 .1,
+        c .read-formulas .ensures .1 .0,
+        ki .read-values2 .ensures .1 .0 .0,
+        kt .read-sessions .ensures .1 .0 .0,
+        ku .read-values .ensures .1 .0 .0,
+        kc .read-classes .ensures .1 .1 .0,
+        kh .read-counts .ensures .1 .1 .0,
       )
 
 no-rules-requires : tie.Need-no-rules-requires
@@ -110,14 +111,14 @@ returns : tie.Need-returns
 returns c =
     let k = c .before .before .before .before in (
       res-any (k .read-formulas .result .at) _ (policyOf (asRead k)) (omega arith) ∙ read k,
-      (beside-bad (k .read-formulas .result .at .number) _ (omega arith) (c .no-rules .ensures), place k),
+      (beside-bad (k .read-formulas .result .at .number) _ (omega arith) (c .no-rules .ensures), (place k, k .read-formulas .ensures .1 .1)),
     )
 
 returns-2 : tie.Need-returns-2
 unfolding asRead
 returns-2 c =
     let k = c .before .before .before .before .before .before .before .before in
-    (read k, (beside-good (k .read-formulas .result .at .number) _ (omega arith), place k))
+    (read k, (beside-good (k .read-formulas .result .at .number) _ (omega arith), (place k, k .read-formulas .ensures .1 .1)))
 
 pub read-policy-spec : {M : Type 1} → statement M
 read-policy-spec =

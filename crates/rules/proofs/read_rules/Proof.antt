@@ -1,15 +1,16 @@
 -- `rules::read_rules` meets its contract: the parts, the filling bits and the end are the file's format (chain-file), and its last cursor
--- tells the answer. Assumes nothing.
+-- tells the answer and the count. Assumes nothing.
 use mathlib.Core.Path.{_≡_, refl, sym, ap, _∙_}
 use native.Mathlib.Omega.{arith}
 use Rattle.format.specs.File.{readFile}
-use Rattle.format.specs.Steps.{resOf, judged}
+use Rattle.format.specs.Steps.{resOf, judged, Once}
 use Rattle.format.specs.declared.Cursor.{Cursor}
 use Rattle.format.proofs.Chain.{from-good, chain-file, res-field}
+use Rattle.format.proofs.Fault.{judged-once}
 use Rattle.policy.specs.File.{policyFormat}
 use Rattle.policy.specs.Rules.{policyOf}
 use Rattle.rules.specs.Answers.{answerOf, beside}
-use Rattle.rules.proofs.Laws.{ends-refused, ends-read}
+use Rattle.rules.proofs.Laws.{ends-refused, ends-read, ends-bits}
 use borrow.Author.Needs.{needs}
 use Rattle.rules.proofs.read_rules.Statement.{statement}
 use Rattle.rules.proofs.read_rules.Tie as tie
@@ -38,16 +39,24 @@ ended c =
     let p = c .before .before .before .before .before .before in
     let s = p .before .before .args .file .now in
     ap (λ (x : Cursor). resOf x (policyOf (p .read-policy .result .rules))) (c .judged .ensures)
-    ∙ chain-file policyFormat s _ _ _ _ _ _ refl refl (p .read-policy .ensures .0 ∙ sym (from-good record { number = 0; pos = 0 } _ refl))
+    ∙ chain-file policyFormat s _ _ _ _ _ _ refl refl (p .read-policy .ensures .0 ∙ sym (from-good record { number = 0; pos = 0; taken = 0 } _ refl))
     (res-field _ _ 3 s _ _ (omega arith) (c .before .before .before .read-field .ensures .0)) (c .before .at-end .ensures)
+
+-- and as many bits were taken as stand before it
+once : (c : tie.After-judged) → Once (c .before .before .before .before .before .before .before .before .args .file .now) (c .judged .result)
+once c = judged-once _ _ (c .judged .ensures) (c .before .before .before .read-field .ensures .1 .1)
 
 returns : tie.Need-returns
 unfolding answerOf beside
-returns c = (sym (ends-refused _ _ _ (ended (c .before .before .before .before)) (omega arith)), c .no-rules .ensures)
+returns c =
+    let k = c .before .before .before .before in
+    (sym (ends-refused _ _ _ (ended k) (omega arith)), (c .no-rules .ensures, ends-bits _ _ _ (ended k) (once k)))
 
 returns-2 : tie.Need-returns-2
 unfolding answerOf beside
-returns-2 c = (sym (ends-read _ _ _ (ended (c .before .before .before)) (c .if1 .left)), refl)
+returns-2 c =
+    let k = c .before .before .before in
+    (sym (ends-read _ _ _ (ended k) (c .if1 .left)), (refl, ends-bits _ _ _ (ended k) (once k)))
 
 pub read-rules-spec : {M : Type 1} → statement M
 read-rules-spec =

@@ -31,7 +31,9 @@ put-field-requires : tie.Need-put-field-requires
 put-field-requires c κs = omega (arith, c .before .before .before .before .before .before .before .before .before .before .before .before .before .before)
 
 same-length : tie.Need-same-length
-same-length c = omega (arith, c .before .before .before .before .before .before .before .before .before .before .before .before .before .before)
+same-length c =
+    let k = c .before .before .before .before .before .before .before .before .before .before in
+    omega (arith, k, k .before .before .before .before .before .before .before .before .before .before)
 
 returns : tie.Need-returns
 unfolding headFormat count headOf

@@ -10,7 +10,7 @@ use borrow.Author.Needs.{needs}
 use lib.ListN.{length, getD, set}
 use lib.Seq.{getD-set-same, getD-set-other}
 use Rattle.format.specs.Format.{Format}
-use Rattle.format.specs.Steps.{from, resOf}
+use Rattle.format.specs.Steps.{from, resOf, Once}
 use Rattle.format.proofs.Chain.{chain-pair, chain-via, res-field}
 use Rattle.policy.specs.File.{formulaFormat}
 use Rattle.policy.specs.Rules.{listsOf, nodesOf, formulasOf}
@@ -36,7 +36,7 @@ short-more l f n h k short g m = go (decLt g f)
 abbrev Inv-loop : tie.InvT-loop
 Inv-loop s classes permissions lengths₀ nodes₀ p₀ f₀ f-end lengths nodes p f =
     (f ≤ f-end) × (f-end ≡ 4 + permissions) × (length lengths ≡ 12) × (length nodes ≡ 768) × (p .pos ≤ p₀ .pos + 1288 * f)
-    × ((g : ℕ) → g < f → getD lengths g 0 ≤ 64) × Reached (row classes) s (4 + permissions) p₀ p (formulasOf nodes lengths f) f
+    × ((g : ℕ) → g < f → getD lengths g 0 ≤ 64) × Reached (row classes) s (4 + permissions) p₀ p (formulasOf nodes lengths f) f × Once s p
 
 abbrev μ-loop : tie.MeasureT-loop
 μ-loop s classes permissions lengths₀ nodes₀ p₀ f₀ f-end lengths nodes p f = f-end - f
@@ -54,6 +54,7 @@ loop-holds c =
       search needs,
       (λ g h. absurd (omega arith)),
       reached-none (row (a .classes)) (a .s .now) (4 + a .permissions) (a .at) _ (formulas-none _ _),
+      search needs,
     )
 
 read-field-requires : tie.Need-read-field-requires Inv-loop μ-loop
@@ -94,10 +95,11 @@ loop-again c =
       search needs,
       search needs,
       search needs,
-      omega (arith, m .ensures .1 .1, n .ensures .1 .place, l .inv .4),
-      short-more (l .lengths) (l .f) x inside (omega (arith, n .ensures .1 .below)) (l .inv .5),
+      omega (arith, m .ensures .1 .1 .0, n .ensures .1 .0 .place, l .inv .4),
+      short-more (l .lengths) (l .f) x inside (omega (arith, n .ensures .1 .0 .below)) (l .inv .5),
       reached-more (row (a .classes)) (a .s .now) (4 + a .permissions) (a .at) (l .p) _ _ _ (l .f) _ (omega arith) (l .inv .6) read
           (formulas-more (l .nodes) _ (l .lengths) (l .f) x inside (l .inv .5) (m .ensures .1 .0 .same)),
+      m .ensures .1 .1 .1,
     )
 
 returns : tie.Need-returns Inv-loop μ-loop
@@ -106,7 +108,7 @@ returns c =
     let a = c .before .before .before .args in (
       reached-all (row (a .classes)) (a .s .now) (4 + a .permissions) (a .at) (l .p) _ _ (l .f) (omega arith) (l .inv .6)
           (ap (formulasOf (l .nodes) (l .lengths)) (let z : 4 + a .permissions ≡ l .f = omega arith in z)),
-      search needs,
+      (search needs, l .inv .7),
     )
 
 pub read-formulas-spec : {M : Type 1} → statement M

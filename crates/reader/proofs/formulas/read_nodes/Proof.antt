@@ -9,7 +9,7 @@ use borrow.Author.Needs.{needs}
 use lib.ListN.{length, set}
 use lib.Seq.{getD-set-other}
 use Rattle.format.specs.Format.{Format}
-use Rattle.format.specs.Steps.{from, resOf}
+use Rattle.format.specs.Steps.{from, resOf, Once}
 use Rattle.policy.specs.File.{nodeFormat}
 use Rattle.policy.specs.Rules.{listsOf, nodesOf}
 use Rattle.policy.specs.declared.Classes.{Classes}
@@ -27,7 +27,7 @@ earlier-set l m f i x r = record { same = λ j h. getD-set-other m (64 * f + i) 
 
 abbrev Inv-loop : tie.InvT-loop
 Inv-loop s classes f n nodes₀ p₀ i₀ nodes p i =
-    (i ≤ n) × (length nodes ≡ 768) × (p .pos ≤ p₀ .pos + 20 * i) × Earlier nodes₀ nodes f × Reached (row classes f) s n p₀ p (nodesOf nodes f i) i
+    (i ≤ n) × (length nodes ≡ 768) × (p .pos ≤ p₀ .pos + 20 * i) × Earlier nodes₀ nodes f × Reached (row classes f) s n p₀ p (nodesOf nodes f i) i × Once s p
 
 abbrev μ-loop : tie.MeasureT-loop
 μ-loop s classes f n nodes₀ p₀ i₀ nodes p i = n - i
@@ -40,6 +40,7 @@ loop-holds c =
       search needs,
       record { same = λ j h. refl },
       reached-none (row (a .classes) (a .f)) (a .s .now) (a .n) (a .at) _ (nodes-none _ (a .f)),
+      search needs,
     )
 
 read-node-requires : tie.Need-read-node-requires Inv-loop μ-loop
@@ -76,10 +77,11 @@ loop-again c =
     t .ensures .0 ∙ ap (λ (k : ℕ). from (l .p) (nodeFormat (listsOf (a .classes)) (a .f) k .read (a .s .now))) (sym (nodes-length (l .nodes) (a .f) (l .i))) in (
       search needs,
       search needs,
-      omega (arith, t .ensures .1 .0, l .inv .2),
+      omega (arith, t .ensures .1 .0 .0, l .inv .2),
       earlier-set _ _ (a .f) (l .i) x (l .inv .3),
       reached-more (row (a .classes) (a .f)) (a .s .now) (a .n) (a .at) (l .p) _ _ _ (l .i) x (omega arith) (l .inv .4) read
           (nodes-more (l .nodes) (a .f) (l .i) x (omega arith)),
+      t .ensures .1 .1,
     )
 
 same-length : tie.Need-same-length Inv-loop μ-loop
@@ -91,7 +93,7 @@ returns c =
     let a = c .before .before .before .before .args in (
       reached-all (row (a .classes) (a .f)) (a .s .now) (a .n) (a .at) (l .p) _ _ (l .i) (omega arith) (l .inv .4)
           (ap (nodesOf (l .nodes) (a .f)) (let z : a .n ≡ l .i = omega arith in z)),
-      (l .inv .3, search needs),
+      (l .inv .3, (search needs, l .inv .5)),
     )
 
 pub read-nodes-spec : {M : Type 1} → statement M

@@ -23,43 +23,59 @@ read-field-requires-4 c κs = search needs
 read-field-requires-5 : tie.Need-read-field-requires-5
 read-field-requires-5 c κs = search needs
 
-read-field-requires-6 : tie.Need-read-field-requires-6
-read-field-requires-6 c κs = search needs
-
 -- the place after the fourth count
 place : (c : tie.After-read-field4) → c .read-field4 .result .at .pos ≤ c .before .before .before .before .before .args .at .pos + 17
 place c = omega arith
 
+read-field-requires-6 : tie.Need-read-field-requires-6
+read-field-requires-6 c κs =
+    let k₄ = c .before in
+    let start = k₄ .before .before .before .before .before .pre .0 in
+    (omega arith, omega (arith, c .read-field5 .ensures .1 .0 .place, place k₄, start), omega arith, c .read-field5 .ensures .1 .1)
+
 read-field-requires-7 : tie.Need-read-field-requires-7
 read-field-requires-7 c κs =
-    let k = c .before .before in
-    (omega arith, omega (arith, place k, k .before .before .before .before .before .pre), omega arith)
+    let k₅ = c .before in
+    let k₄ = k₅ .before in
+    let start = k₄ .before .before .before .before .before .pre .0 in (
+      omega arith,
+      omega (arith, c .read-field6 .ensures .1 .0 .place, k₅ .read-field5 .ensures .1 .0 .place, place k₄, start),
+      omega arith,
+      c .read-field6 .ensures .1 .1,
+    )
 
 read-field-requires-8 : tie.Need-read-field-requires-8
 read-field-requires-8 c κs =
-    let k = c .before .before .before in
-    (omega arith, omega (arith, place k, k .before .before .before .before .before .pre), omega arith)
+    let k₆ = c .before in
+    let k₅ = k₆ .before in
+    let k₄ = k₅ .before in
+    let start = k₄ .before .before .before .before .before .pre .0 in (
+      omega arith,
+      omega (arith, c .read-field7 .ensures .1 .0 .place, k₆ .read-field6 .ensures .1 .0 .place, k₅ .read-field5 .ensures .1 .0 .place, place k₄, start),
+      omega arith,
+      c .read-field7 .ensures .1 .1,
+    )
 
 cast-t12 : tie.Need-cast-t12
-cast-t12 c = omega (arith, c .before .before .before .before .before .before .before .before .before .read-field .ensures .1 .below)
+cast-t12 c = omega (arith, c .before .before .before .before .before .before .before .before .before .read-field .ensures .1 .0 .below)
 
 cast-t13 : tie.Need-cast-t13
-cast-t13 c = omega (arith, c .before .before .before .before .before .before .before .before .before .read-field2 .ensures .1 .below)
+cast-t13 c = omega (arith, c .before .before .before .before .before .before .before .before .before .read-field2 .ensures .1 .0 .below)
 
 cast-t14 : tie.Need-cast-t14
-cast-t14 c = omega (arith, c .before .before .before .before .before .before .before .before .before .read-field3 .ensures .1 .below)
+cast-t14 c = omega (arith, c .before .before .before .before .before .before .before .before .before .read-field3 .ensures .1 .0 .below)
 
 cast-t15 : tie.Need-cast-t15
-cast-t15 c = omega (arith, c .before .before .before .before .before .before .before .before .before .read-field4 .ensures .1 .below)
+cast-t15 c = omega (arith, c .before .before .before .before .before .before .before .before .before .read-field4 .ensures .1 .0 .below)
 
 cast-t16 : tie.Need-cast-t16
-cast-t16 c = search needs
+cast-t16 c = omega (arith, c .before .before .before .before .before .before .before .before .before .read-field5 .ensures .1 .0 .below)
 
 cast-t17 : tie.Need-cast-t17
-cast-t17 c = search needs
+cast-t17 c = omega (arith, c .before .before .before .before .before .before .before .before .before .read-field6 .ensures .1 .0 .below)
 
 cast-t18 : tie.Need-cast-t18
-cast-t18 c = search needs
+cast-t18 c = omega (arith, c .before .before .before .before .before .before .before .before .before .read-field7 .ensures .1 .0 .below)
 
 returns : tie.Need-returns
 unfolding headFormat count headOf
@@ -84,16 +100,19 @@ returns c =
           (res-field _ _ 3 s _ _ (omega arith) (k₈ .read-field8 .ensures .0))),
       (
         record {
-          user = omega (arith, k₁ .read-field .ensures .1 .below);
-          session = omega (arith, k₂ .read-field2 .ensures .1 .below);
-          item = omega (arith, k₃ .read-field3 .ensures .1 .below);
-          users = omega (arith, k₄ .read-field4 .ensures .1 .below);
-          sessions = omega (arith, k₅ .read-field5 .ensures .1 .below);
-          items = omega (arith, k₆ .read-field6 .ensures .1 .below);
-          permissions = omega (arith, k₇ .read-field7 .ensures .1 .below);
+          user = omega (arith, k₁ .read-field .ensures .1 .0 .below);
+          session = omega (arith, k₂ .read-field2 .ensures .1 .0 .below);
+          item = omega (arith, k₃ .read-field3 .ensures .1 .0 .below);
+          users = omega (arith, k₄ .read-field4 .ensures .1 .0 .below);
+          sessions = omega (arith, k₅ .read-field5 .ensures .1 .0 .below);
+          items = omega (arith, k₆ .read-field6 .ensures .1 .0 .below);
+          permissions = omega (arith, k₇ .read-field7 .ensures .1 .0 .below);
         },
-        omega
-            (arith, place k₄, k₅ .read-field5 .ensures .1 .place, k₆ .read-field6 .ensures .1 .place, k₇ .read-field7 .ensures .1 .place, k₈ .read-field8 .ensures .1 .place),
+        (
+          omega
+              (arith, place k₄, k₅ .read-field5 .ensures .1 .0 .place, k₆ .read-field6 .ensures .1 .0 .place, k₇ .read-field7 .ensures .1 .0 .place, k₈ .read-field8 .ensures .1 .0 .place),
+          k₈ .read-field8 .ensures .1 .1,
+        ),
       ),
     )
 

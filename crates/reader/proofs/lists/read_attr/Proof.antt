@@ -4,10 +4,10 @@ use Prim.Native.Nat.{ℕ, _+_}
 use native.Mathlib.Omega.{arith}
 use borrow.Author.Needs.{needs}
 use Rattle.format.specs.Format.{within, field}
-use Rattle.format.specs.Steps.{from, resOf}
+use Rattle.format.specs.Steps.{from, resOf, Once}
 use Rattle.format.specs.declared.Cursor.{Cursor}
 use Rattle.format.proofs.Chain.{chain-field, chain-pair, chain-via, chain-zeros, res-bits, res-field}
-use Rattle.format.proofs.Fault.{judged-pos}
+use Rattle.format.proofs.Fault.{judged-pos, judged-once}
 use Rattle.policy.specs.File.{largest, sizeFits, attrFormat}
 use Rattle.reader.specs.Parts.{attrOf}
 use Rattle.reader.proofs.lists.read_attr.Statement.{statement}
@@ -46,15 +46,19 @@ place c =
     let t = c .before .before .before .before .take in
     ap (λ (z : Cursor). z .pos) (c .judged .ensures) ∙ judged-pos (t .result .at) (c .before .size-fits .result) 18
 
+-- and takes nothing
+once : (c : tie.After-judged) → let k = c .before .before .before .before in Once (k .before .before .before .before .before .before .args .s .now) (c .judged .result)
+once c = judged-once _ _ (c .judged .ensures) (c .before .before .before .before .take .ensures .1 .1)
+
 read-field-requires-3 : tie.Need-read-field-requires-3
 read-field-requires-3 c κs =
     let kt = c .before .before .before .before in
     let kn = kt .before in
     let kk = kn .before .before in
-    (omega arith, omega (arith, place c, kt .take .ensures .1 .place, kn .read-field2 .ensures .1 .place, kk .read-field .ensures .1 .place), omega arith)
+    (omega arith, omega (arith, place c, kt .take .ensures .1 .0 .place, kn .read-field2 .ensures .1 .0 .place, kk .read-field .ensures .1 .0 .place), omega arith, once c)
 
 cast-t15 : tie.Need-cast-t15
-cast-t15 c = let kk = c .before .before .before .before .before .before .before .before .before .before in omega (arith, kk .read-field .ensures .1 .fits)
+cast-t15 c = let kk = c .before .before .before .before .before .before .before .before .before .before in omega (arith, kk .read-field .ensures .1 .0 .fits)
 
 returns : tie.Need-returns
 unfolding attrFormat attrOf
@@ -80,8 +84,11 @@ returns c =
           (chain-zeros _ 1 3 s _ _ _ _ _
           (chain-pair _ _ s _ _ _ _ _ (res-field _ _ 4 s _ _ (omega arith) (kk .read-field .ensures .0)) (chain-pair _ _ s _ _ _ _ _ sized listed))
           (res-field _ _ 3 s _ _ (omega arith) (kz .read-field3 .ensures .0))),
-      omega
-          (arith, kz .read-field3 .ensures .1 .place, place kj, kt .take .ensures .1 .place, kn .read-field2 .ensures .1 .place, kk .read-field .ensures .1 .place),
+      (
+        omega
+            (arith, kz .read-field3 .ensures .1 .0 .place, place kj, kt .take .ensures .1 .0 .place, kn .read-field2 .ensures .1 .0 .place, kk .read-field .ensures .1 .0 .place),
+        kz .read-field3 .ensures .1 .1,
+      ),
     )
 
 pub read-attr-spec : {M : Type 1} → statement M

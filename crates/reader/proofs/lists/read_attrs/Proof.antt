@@ -8,7 +8,7 @@ use native.Mathlib.Omega.{arith}
 use borrow.Author.Needs.{needs}
 use lib.ListN.{length, set}
 use Rattle.format.specs.Format.{Format}
-use Rattle.format.specs.Steps.{from, resOf}
+use Rattle.format.specs.Steps.{from, resOf, Once}
 use Rattle.policy.specs.Policy.{Attr}
 use Rattle.policy.specs.File.{sizesAfter, attrFormat}
 use Rattle.policy.specs.Rules.{attrsOf}
@@ -26,7 +26,7 @@ abbrev Inv-loop : tie.InvT-loop
 Inv-loop s n known₀ kinds₀ sizes₀ lists₀ p₀ i₀ i-end known kinds sizes lists p i =
     let l = attrsOf record { count = i; kinds = kinds; sizes = sizes; lists = lists } in
     (i ≤ i-end) × (i-end ≡ n) × (length kinds ≡ 8) × (length sizes ≡ 8) × (length lists ≡ 8) × (length known ≡ length known₀) × (p .pos ≤ p₀ .pos + 12 * i)
-    × (known ≡ sizesAfter known₀ l) × Reached (row known₀) s n p₀ p l i
+    × (known ≡ sizesAfter known₀ l) × Reached (row known₀) s n p₀ p l i × Once s p
 
 abbrev μ-loop : tie.MeasureT-loop
 μ-loop s n known₀ kinds₀ sizes₀ lists₀ p₀ i₀ i-end known kinds sizes lists p i = i-end - i
@@ -43,6 +43,7 @@ loop-holds c =
       search needs,
       sym (ap (sizesAfter (a .known .now)) (attrs-none _ refl) ∙ sizes-none (a .known .now)),
       reached-none (row (a .known .now)) (a .s .now) (a .n) (a .at) _ (attrs-none _ refl),
+      search needs,
     )
 
 read-attr-requires : tie.Need-read-attr-requires Inv-loop μ-loop
@@ -88,6 +89,7 @@ loop-again c =
       z .ensures ∙ kept ∙ ap (sizesAfter (a .known .now)) (sym more),
       reached-more (row (a .known .now)) (a .s .now) (a .n) (a .at) (l .p) _ _ _ (l .i) (attrOf r) (omega arith) (l .inv .8)
           (read ∙ ap (λ (m : List ℕ). from (l .p) (attrFormat m .read (a .s .now))) (l .inv .7)) more,
+      search needs,
     )
 
 same-length : tie.Need-same-length Inv-loop μ-loop
@@ -100,7 +102,7 @@ returns c =
     let k : Class = record { count = l .i; kinds = l .kinds; sizes = l .sizes; lists = l .lists } in
     let e : attrsOf (cut k (a .n)) ≡ attrsOf k = ap (λ (m : ℕ). attrsOf (cut k m)) (let z : a .n ≡ l .i = omega arith in z) in (
       reached-all (row (a .known .now)) (a .s .now) (a .n) (a .at) (l .p) _ _ (l .i) (omega arith) (l .inv .8) e,
-      (l .inv .7 ∙ ap (sizesAfter (a .known .now)) (sym e), search needs),
+      (l .inv .7 ∙ ap (sizesAfter (a .known .now)) (sym e), (search needs, l .inv .9)),
     )
 
 pub read-attrs-spec : {M : Type 1} → statement M

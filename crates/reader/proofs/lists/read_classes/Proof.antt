@@ -74,7 +74,7 @@ returns c =
       chain-via _ _ _ s _ _ _ (chain-pair _ _ s _ _ _ _ _ (u .ensures .0) (chain-pair _ _ s _ _ _ _ _ second third)),
       (
         record { user = u .ensures .1 .1 .0; session = t .ensures .1 .1 .0; item = i .ensures .1 .1 .0 },
-        omega (arith, u .ensures .1 .1 .1, t .ensures .1 .1 .1, i .ensures .1 .1 .1),
+        (omega (arith, u .ensures .1 .1 .1 .0, t .ensures .1 .1 .1 .0, i .ensures .1 .1 .1 .0), i .ensures .1 .1 .1 .1),
       ),
     )
 

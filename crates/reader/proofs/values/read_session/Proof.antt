@@ -26,7 +26,7 @@ returns c =
     let ku = kv .before in
     let s = ku .before .before .args .s .now in (
       chain-via _ _ _ s _ _ _ (chain-pair _ _ s _ _ _ _ _ (res-field _ _ 7 s _ _ (omega arith) (ku .read-field .ensures .0)) (kv .read-value .ensures .0)),
-      omega (arith, ku .read-field .ensures .1 .place, kv .read-value .ensures .1 .0),
+      (omega (arith, ku .read-field .ensures .1 .0 .place, kv .read-value .ensures .1 .0 .0), kv .read-value .ensures .1 .1),
     )
 
 pub read-session-spec : {M : Type 1} → statement M

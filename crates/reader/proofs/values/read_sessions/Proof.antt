@@ -7,6 +7,7 @@ use native.Mathlib.Omega.{arith}
 use borrow.Author.Needs.{needs}
 use lib.ListN.{length}
 use Rattle.format.specs.Format.{Format}
+use Rattle.format.specs.Steps.{Once}
 use Rattle.policy.specs.Policy.{Session}
 use Rattle.policy.specs.File.{sessionFormat}
 use Rattle.policy.specs.Rules.{attrsOf, sessionsOf}
@@ -23,7 +24,7 @@ row users class _ = sessionFormat users (attrsOf class)
 abbrev Inv-loop : tie.InvT-loop
 Inv-loop s class users n list₀ values₀ p₀ i₀ i-end list values p i =
     (i ≤ i-end) × (i-end ≡ n) × (length list ≡ 32) × (length values ≡ 32) × (p .pos ≤ p₀ .pos + 12 * i)
-    × Reached (row users class) s n p₀ p (sessionsOf record { count = i; users = list; values = values }) i
+    × Reached (row users class) s n p₀ p (sessionsOf record { count = i; users = list; values = values }) i × Once s p
 
 abbrev μ-loop : tie.MeasureT-loop
 μ-loop s class users n list₀ values₀ p₀ i₀ i-end list values p i = i-end - i
@@ -37,6 +38,7 @@ loop-holds c =
       search needs,
       search needs,
       reached-none (row (a .users) (a .class)) (a .s .now) (a .n) (a .at) _ (sessions-none _ _),
+      search needs,
     )
 
 read-session-requires : tie.Need-read-session-requires Inv-loop μ-loop
@@ -67,6 +69,7 @@ loop-again c =
       search needs,
       reached-more (row (a .users) (a .class)) (a .s .now) (a .n) (a .at) (l .p) _ _ _ (l .i) _ (omega arith) (l .inv .5) (t .read-session .ensures .0)
           (sessions-more (l .list) (l .values) (l .i) _ _ (omega arith) (omega arith)),
+      search needs,
     )
 
 returns : tie.Need-returns Inv-loop μ-loop
@@ -75,7 +78,7 @@ returns c =
     let a = c .before .before .before .args in (
       reached-all (row (a .users) (a .class)) (a .s .now) (a .n) (a .at) (l .p) _ _ (l .i) (omega arith) (l .inv .5)
           (ap (λ (k : ℕ). sessionsOf record { count = k; users = l .list; values = l .values }) (let z : a .n ≡ l .i = omega arith in z)),
-      search needs,
+      (search needs, l .inv .6),
     )
 
 pub read-sessions-spec : {M : Type 1} → statement M

@@ -8,8 +8,9 @@ use native.Mathlib.Nat.{mod-eq-of-lt}
 use native.Mathlib.Omega.{arith}
 use borrow.Author.Needs.{needs}
 use Rattle.format.specs.Format.{Format}
-use Rattle.format.specs.Steps.{from, judged}
+use Rattle.format.specs.Steps.{from, judged, Once}
 use Rattle.format.proofs.Chain.{res-bits}
+use Rattle.format.proofs.Fault.{judged-once}
 use Rattle.policy.specs.Rules.{attrAt}
 use Rattle.policy.proofs.Laws.{withoutLists, width-any, value-any}
 use Rattle.reader.proofs.Value.{Partly, partly-none, partly-room, partly-more, partly-below, partly-all}
@@ -18,7 +19,7 @@ use Rattle.reader.proofs.values.read_value.Tie as tie
 
 abbrev Inv-loop : tie.InvT-loop
 Inv-loop s kinds sizes v₀ p₀ i₀ i-end v p i =
-    (i ≤ i-end) × (i-end ≤ 8) × Partly s record { count = i-end; kinds = kinds; sizes = sizes; lists = [] } p₀ p v i
+    (i ≤ i-end) × (i-end ≤ 8) × Partly s record { count = i-end; kinds = kinds; sizes = sizes; lists = [] } p₀ p v i × Once s p
 
 abbrev μ-loop : tie.MeasureT-loop
 μ-loop s kinds sizes v₀ p₀ i₀ i-end v p i = i-end - i
@@ -38,7 +39,7 @@ loop-holds : tie.Need-loop-holds Inv-loop μ-loop
 loop-holds c =
     let k = c .before .before .before .before in
     let class = k .args .class in
-    (search needs, omega (arith, k .pre .1 .count), partly-none (k .args .s .now) (withoutLists class) (k .args .at) (omega (arith, width-any class, k .pre .1 .wide)))
+    (search needs, omega (arith, k .pre .1 .count), partly-none (k .args .s .now) (withoutLists class) (k .args .at) (omega (arith, width-any class, k .pre .1 .wide)), k .pre .2)
 
 array-read-kind : tie.Need-array-read-kind Inv-loop μ-loop
 array-read-kind c = search needs
@@ -53,7 +54,7 @@ cast-take : tie.Need-cast-take Inv-loop μ-loop
 cast-take c = search needs
 
 take-requires : tie.Need-take-requires Inv-loop μ-loop
-take-requires c κs = (omega (arith, room c .0), omega (arith, c .before .before .loop .inv .2 .place))
+take-requires c κs = let l = c .before .before .loop in (omega (arith, room c .0), omega (arith, l .inv .2 .place), l .inv .3)
 
 code-ok-requires : tie.Need-code-ok-requires Inv-loop μ-loop
 code-ok-requires c κs = search needs
@@ -68,7 +69,7 @@ shl-v : tie.Need-shl-v Inv-loop μ-loop
 shl-v c = omega (arith, room (c .before .before .before) .0)
 
 add-v : tie.Need-add-v Inv-loop μ-loop
-add-v c = omega (arith, room (c .before .before .before) .1, c .before .before .take .ensures .1 .fits)
+add-v c = omega (arith, room (c .before .before .before) .1, c .before .before .take .ensures .1 .0 .fits)
 
 add-i : tie.Need-add-i Inv-loop μ-loop
 add-i c = search needs
@@ -90,11 +91,12 @@ loop-again c =
       search needs,
       rw (c .judged .ensures, exact)
           (partly-more (a .s .now) (withoutLists (a .class)) (a .at) (l .p) (l .v) (l .i) w (omega arith) (l .inv .2) (b .bits-for .ensures 0) (t .result .at) (t .result .value) (o .result)
-          (res-bits (a .s .now) (l .p) w (t .result) (t .ensures .0)) (t .ensures .1 .fits) (t .ensures .1 .place) (o .ensures 0)),
+          (res-bits (a .s .now) (l .p) w (t .result) (t .ensures .0)) (t .ensures .1 .0 .fits) (t .ensures .1 .0 .place) (o .ensures 0)),
+      judged-once _ _ (c .judged .ensures) (t .ensures .1 .1),
     )
 
 take-requires-2 : tie.Need-take-requires-2 Inv-loop μ-loop
-take-requires-2 c κs = (omega arith, omega (arith, c .before .loop .inv .2 .place))
+take-requires-2 c κs = let l = c .before .loop in (omega arith, omega (arith, l .inv .2 .place), l .inv .3)
 
 returns : tie.Need-returns Inv-loop μ-loop
 returns c =
@@ -102,11 +104,14 @@ returns c =
     let l = c .before .before .before .loop in
     let a = c .before .before .before .before .before .before .before .before .args in (
       partly-all (a .s .now) (withoutLists (a .class)) (a .at) (l .p) (l .v) (l .i) (omega arith) (l .inv .2) (t .result .at) (t .result .value)
-          (res-bits (a .s .now) (l .p) 0 (t .result) (t .ensures .0)) (t .ensures .1 .fits)
+          (res-bits (a .s .now) (l .p) 0 (t .result) (t .ensures .0)) (t .ensures .1 .0 .fits)
           ∙ ap (λ (f : Format ℕ). from (a .at) (f .read (a .s .now))) (value-any (a .class)),
       (
-        omega (arith, t .ensures .1 .place, l .inv .2 .place),
-        partly-below (a .s .now) (withoutLists (a .class)) (a .at) (l .p) (l .v) (l .i) (omega arith) (l .inv .2),
+        (
+          omega (arith, t .ensures .1 .0 .place, l .inv .2 .place),
+          partly-below (a .s .now) (withoutLists (a .class)) (a .at) (l .p) (l .v) (l .i) (omega arith) (l .inv .2),
+        ),
+        t .ensures .1 .1,
       ),
     )
 

@@ -7,6 +7,7 @@ use native.Mathlib.Omega.{arith}
 use borrow.Author.Needs.{needs}
 use lib.ListN.{length}
 use Rattle.format.specs.Format.{Format}
+use Rattle.format.specs.Steps.{Once}
 use Rattle.policy.specs.File.{valueFormat}
 use Rattle.policy.specs.Rules.{attrsOf, valuesOf}
 use Rattle.policy.specs.declared.Class.{Class}
@@ -20,7 +21,7 @@ row class _ = valueFormat (attrsOf class)
 
 abbrev Inv-loop : tie.InvT-loop
 Inv-loop s class n list₀ p₀ i₀ i-end list p i =
-    (i ≤ i-end) × (i-end ≡ n) × (length list ≡ 32) × (p .pos ≤ p₀ .pos + 8 * i) × Reached (row class) s n p₀ p (valuesOf record { count = i; values = list }) i
+    (i ≤ i-end) × (i-end ≡ n) × (length list ≡ 32) × (p .pos ≤ p₀ .pos + 8 * i) × Reached (row class) s n p₀ p (valuesOf record { count = i; values = list }) i × Once s p
 
 abbrev μ-loop : tie.MeasureT-loop
 μ-loop s class n list₀ p₀ i₀ i-end list p i = i-end - i
@@ -28,7 +29,7 @@ abbrev μ-loop : tie.MeasureT-loop
 loop-holds : tie.Need-loop-holds Inv-loop μ-loop
 loop-holds c =
     let a = c .before .args in
-    (search needs, search needs, search needs, search needs, reached-none (row (a .class)) (a .s .now) (a .n) (a .at) _ (values-none _))
+    (search needs, search needs, search needs, search needs, reached-none (row (a .class)) (a .s .now) (a .n) (a .at) _ (values-none _), search needs)
 
 read-value-requires : tie.Need-read-value-requires Inv-loop μ-loop
 read-value-requires c κs = search needs
@@ -56,6 +57,7 @@ loop-again c =
       search needs,
       reached-more (row (a .class)) (a .s .now) (a .n) (a .at) (l .p) _ _ _ (l .i) _ (omega arith) (l .inv .4) (t .read-value .ensures .0)
           (values-more (l .list) (l .i) _ (omega arith)),
+      search needs,
     )
 
 returns : tie.Need-returns Inv-loop μ-loop
@@ -64,7 +66,7 @@ returns c =
     let a = c .before .before .before .args in (
       reached-all (row (a .class)) (a .s .now) (a .n) (a .at) (l .p) _ _ (l .i) (omega arith) (l .inv .4)
           (ap (λ (k : ℕ). valuesOf record { count = k; values = l .list }) (let z : a .n ≡ l .i = omega arith in z)),
-      search needs,
+      (search needs, l .inv .5),
     )
 
 pub read-values-spec : {M : Type 1} → statement M

@@ -1,7 +1,7 @@
 // The library for C and Rust hosts: each call returns 0, or paper 01's number, and is one call of a crate below.
 ghost use mathlib.Core.Path.{_≡_};
 ghost use lib.ListN.{length};
-ghost use Rattle.rules.specs.Answers.{reading, filled};
+ghost use Rattle.rules.specs.Answers.{reading, bitsTaken, filled};
 ghost use Rattle.live.specs.Lent.{lentAs, hostNumber};
 ghost use Rattle.replay.specs.Replay.{replayed};
 ghost use Rattle.analyser.specs.Means.{Means};
@@ -14,6 +14,15 @@ pub extern "C" fn rights_read(file: &[u8]) -> u32
     ensures { λ r. ⌜ r ≡ numberOf (reading (now (file .entry))) ⌝ }
 {
     host_files::read(file)
+}
+
+// Reads a rule file as `rights_read` does; `bits` becomes how many of the file's bits were taken, with a number too.
+#[no_mangle]
+pub extern "C" fn rights_read_bits(file: &[u8], bits: &mut u64) -> u32
+    ensures { λ r. ⌜ r ≡ numberOf (reading (now (file .entry))) ⌝ }
+    ensures { λ r. ⌜ now (bits .exit) ≡ bitsTaken (now (file .entry)) ⌝ }
+{
+    host_files::read_bits(file, bits)
 }
 
 // Reads a rule file and writes its rules back to the front of `out`: 0 and the length, or the file's number, or 11 where `out` is

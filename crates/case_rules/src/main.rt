@@ -1,6 +1,6 @@
 // Runs the stored cases of tests/vectors/rules.txt, which make.py has turned into records on standard input, and prints each answer:
-// `refused n`, or `ok length` and whether the bytes written are the right ones and all others are as they were. Of a file that is read, `read,` stands
-// before what writing its rules back gives.
+// `refused n`, or `ok length` and whether the bytes written are the right ones and all others are as they were. Of a file, how many bits were taken
+// stands first; and where it is accepted, `read,` stands before what writing its rules back gives.
 ghost use Prim.Native.Nat.{_+_, _≤_, _<_};
 ghost use lib.ListN.{length};
 
@@ -86,9 +86,12 @@ fn write_case(rules: Rules, room: usize, want: &[u8]) {
     }
 }
 
-// A file: what reading it answers, and if it is accepted what writing its rules back gives.
+// A file: how many bits were taken, what reading it answers, and if it is accepted what writing its rules back gives.
 fn read_case(file: &[u8]) {
     let p = rules::read_rules(file);
+    io::write_all(STDOUT_FILENO, b" ");
+    io::print_decimal(STDOUT_FILENO, p.bits as u64);
+    io::write_all(STDOUT_FILENO, b" bits,");
     let answer = p.answer;
     match answer {
         Reading::Accepted => {

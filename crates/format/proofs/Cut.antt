@@ -14,7 +14,7 @@ use lib.ListN.{length}
 use Rattle.bits.specs.Field.{numberAt}
 use Rattle.format.specs.Format.{Res, ok, bad, Format, tested, andThen, taken, field, check, rowsRead, rows, pair, via, zeros}
 use Rattle.format.specs.File.{SameBits, ended, readFile}
-use Rattle.format.proofs.Fault.{then-ok, ok-then, tested-ok, taken-value, taken-short}
+use Rattle.format.proofs.Fault.{then-ok, ok-then, tested-ok, ok-tested, taken-value, taken-short}
 use Rattle.format.proofs.Bounded.{agree-less, agree-taken}
 
 -- the place after what was read, or where the number was judged
@@ -131,3 +131,143 @@ module _ {A B : Type 0} (f : List ℕ → ℕ → Res A) (g : A → List ℕ →
           either s′ u i j (yes l) = short s′ (t .needed s′ u i l)
           either s′ u i j (no l) =
               ok-then (f s′ pos) _ a p (t .enough s′ (agree-less (omega arith) u) (ok-whole a p)) ∙ G a s p (t .inside) .needed s′ u (omega arith) j
+
+-- the law of a format
+pub record Cuts {A : Type 0} (f : Format A) : Type 0 where
+  pub reads : (s : List ℕ) (pos : ℕ) → pos ≤ 8 * length s → Reads (λ s′. f .read s′ pos) s pos (f .read s pos)
+
+pub cuts-field : (w : ℕ) (t : ℕ → Bool) (n : ℕ) → (n ≡ 1 → ⊥) → Cuts (field w t n)
+unfolding field
+cuts-field w t n h = record { reads = goes-then (λ s pos. taken s pos w) (λ x s q. tested (t x) n x q) (goes-taken w) (λ x. goes-tested (t x) n x h) }
+
+pub cuts-check : {A : Type 0} (f : Format A) (t : A → Bool) (n : ℕ) → (n ≡ 1 → ⊥) → Cuts f → Cuts (check f t n)
+unfolding check
+cuts-check f t n h c = record { reads = goes-then (f .read) (λ a s q. tested (t a) n a q) (c .reads) (λ a. goes-tested (t a) n a h) }
+
+module _ {A B : Type 0} where
+  pub cuts-pair : (f : Format A) (g : A → Format B) → Cuts f → ((a : A) → Cuts (g a)) → Cuts (pair f g)
+  unfolding pair
+  cuts-pair f g c d =
+      record {
+        reads =
+            goes-then (f .read) (λ a s q. andThen (g a .read s q) (λ b r. ok (a, b) r)) (c .reads)
+            (λ a. goes-then (g a .read) (λ b s q. ok (a, b) q) (d a .reads) (λ b. goes-ok (a, b)));
+      }
+
+  pub cuts-via : (to : B → A) (from : A → B) (f : Format A) → Cuts f → Cuts (via to from f)
+  unfolding via
+  cuts-via to from f c = record { reads = goes-then (f .read) (λ a s q. ok (from a) q) (c .reads) (λ a. goes-ok (from a)) }
+
+pub cuts-zeros : {A : Type 0} (f : Format A) (w n : ℕ) → (n ≡ 1 → ⊥) → Cuts f → Cuts (zeros f w n)
+unfolding zeros
+cuts-zeros f w n h c = cuts-via _ _ _ (cuts-pair f _ c (λ _. cuts-field w (eqb 0) n h))
+
+module _ {A : Type 0} (f : List A → Format A) (each : (l : List A) → Cuts (f l)) where
+  goes-rows : (l : List A) (c : ℕ) → Goes (λ s pos. rowsRead f s l c pos)
+  unfolding rowsRead
+  goes-rows l zero = goes-ok l
+  goes-rows l (suc c) = goes-then (f l .read) (λ a s q. rowsRead f s (l ++ a ∷ []) c q) (each l .reads) (λ a. goes-rows (l ++ a ∷ []) c)
+
+  pub cuts-rows : (c : ℕ) → Cuts (rows c f)
+  unfolding rows
+  cuts-rows c = record { reads = goes-rows [] c }
+
+tested-bad : {A : Type 0} (b : Bool) (m : ℕ) (a : A) (p n q : ℕ) → tested b m a p ≡ bad n q → (m ≡ n) × (p ≡ q)
+unfolding tested
+tested-bad true m a p n q e = absurd (let z : _≡_ {A = ℕ} 0 1 = cc in omega arith)
+tested-bad false m a p n q e = (cc, cc)
+
+tested-fails : {A : Type 0} (b : Bool) (m : ℕ) (a : A) (p : ℕ) → b ≡ false → tested b m a p ≡ bad m p
+unfolding tested
+tested-fails b m a p e = rw e refl
+
+tested-place : {A : Type 0} (b : Bool) (m : ℕ) (a : A) (p : ℕ) → place (tested b m a p) ≡ p
+unfolding tested place
+tested-place true m a p = refl
+tested-place false m a p = refl
+
+module _ {A : Type 0} where
+  -- the filling bits after what was read
+  filled : A → List ℕ → ℕ → Res A
+  filled a s q = andThen (field ((8 - q % 8) % 8) (eqb 0) 3 .read s q) (λ x r. ok a r)
+
+  goes-filled : (a : A) → Goes (filled a)
+  unfolding filled
+  goes-filled a s q h =
+      goes-then (field ((8 - q % 8) % 8) (eqb 0) 3 .read) (λ x s r. ok a r) (cuts-field ((8 - q % 8) % 8) (eqb 0) 3 (λ e. omega arith) .reads) (λ x. goes-ok a) s q h
+
+  -- nothing follows
+  closed : List ℕ → Res A → Res A
+  closed s r = andThen r (λ a q. tested (eqb q (8 * length s)) 3 a q)
+
+  closed-place : (s : List ℕ) (r : Res A) → place (closed s r) ≡ place r
+  unfolding closed andThen place
+  closed-place s (bad n q) = refl
+  closed-place s (ok a q) = tested-place (eqb q (8 * length s)) 3 a q
+
+module _ {A : Type 0} (f : Format A) where
+  -- a file up to its last filling bit
+  front : List ℕ → ℕ → Res A
+  front s pos = andThen (f .read s pos) (λ a q. filled a s q)
+
+  file-is : (s : List ℕ) → readFile f s ≡ closed s (front s 0)
+  unfolding readFile ended closed front filled andThen
+  file-is s = go (f .read s 0)
+    where
+      inner : (a : A) (q : ℕ) (r : Res ℕ) → andThen r (λ x p. tested (eqb p (8 * length s)) 3 a p) ≡ closed s (andThen r (λ x p. ok a p))
+      inner a q (bad n p) = refl
+      inner a q (ok x p) = refl
+
+      go : (r : Res A) → andThen r (λ a q. ended s a q) ≡ closed s (andThen r (λ a q. filled a s q))
+      go (bad n q) = refl
+      go (ok a q) = inner a q (field ((8 - q % 8) % 8) (eqb 0) 3 .read s q)
+
+  -- a file that is read is taken to its end
+  pub file-end : (s : List ℕ) (a : A) (q : ℕ) → readFile f s ≡ ok a q → q ≡ 8 * length s
+  unfolding closed
+  file-end s a q e =
+      then-ok (front s 0) _ a q (sym (file-is s) ∙ e) λ b p e₀ e₁.
+      let (t₀, t₁, t₂) = tested-ok (eqb p (8 * length s)) 3 b p a q e₁ in
+      sym t₂ ∙ eqb-true p (8 * length s) t₀
+
+  module _ (c : Cuts f) where
+    front-reads : (s : List ℕ) → Reads (λ s′. front s′ 0) s 0 (front s 0)
+    unfolding front
+    front-reads s = goes-then (f .read) filled (c .reads) goes-filled s 0 (omega arith)
+
+    -- and so is one that gets 1
+    pub file-one : (s : List ℕ) (q : ℕ) → readFile f s ≡ bad 1 q → q ≡ 8 * length s
+    unfolding closed andThen
+    file-one s q e = go (front s 0) (front-reads s) (sym (file-is s) ∙ e)
+      where
+        go : (r : Res A) → Reads (λ s′. front s′ 0) s 0 r → closed s r ≡ bad 1 q → q ≡ 8 * length s
+        go (bad n p) t d = t .one q d
+        go (ok a p) t d = absurd (omega (arith, tested-bad (eqb p (8 * length s)) 3 a p 1 q d .0))
+
+    -- with another number the bits up to its place are enough; bytes that end there are read where 3 was for bytes that follow
+    pub file-enough : (s s′ : List ℕ) (n q : ℕ) → readFile f s ≡ bad n q → (n ≡ 1 → ⊥) → SameBits s s′ q
+        → (readFile f s′ ≡ bad n q) ⊎ ((a : A) × ((n ≡ 3) × (8 * length s′ ≡ q) × (readFile f s′ ≡ ok a q)))
+    unfolding closed andThen place
+    file-enough s s′ n q e h g = go (front s 0) (front-reads s) (sym (file-is s) ∙ e)
+      where
+        gives : (r : Res A) → front s′ 0 ≡ r → readFile f s′ ≡ closed s′ r
+        gives r d = file-is s′ ∙ ap (closed s′) d
+
+        at : (a : A) → front s′ 0 ≡ ok a q → n ≡ 3 → Dec (q ≡ 8 * length s′)
+            → (readFile f s′ ≡ bad n q) ⊎ ((a : A) × ((n ≡ 3) × (8 * length s′ ≡ q) × (readFile f s′ ≡ ok a q)))
+        at a d z (yes i) = inr (a, (z, sym i, gives (ok a q) d ∙ ok-tested (eqb q (8 * length s′)) 3 a q (eq-eqb q (8 * length s′) i)))
+        at a d z (no i) = inl (gives (ok a q) d ∙ tested-fails (eqb q (8 * length s′)) 3 a q (ne-eqb q (8 * length s′) i) ∙ ap (λ (x : ℕ). bad x q) (sym z))
+
+        go : (r : Res A) → Reads (λ s′. front s′ 0) s 0 r → closed s r ≡ bad n q
+            → (readFile f s′ ≡ bad n q) ⊎ ((a : A) × ((n ≡ 3) × (8 * length s′ ≡ q) × (readFile f s′ ≡ ok a q)))
+        go (bad m p) t d =
+            inl (gives (bad m p) (t .enough s′ (subst (SameBits s s′) (sym (bad-place m p n q d)) g) (bad-whole m p (λ z. h (let i : m ≡ n = cc in omega arith)))) ∙ d)
+        go (ok a p) t d =
+            let (z, i) = tested-bad (eqb p (8 * length s)) 3 a p n q d in
+            at a (t .enough s′ (subst (SameBits s s′) (sym i) g) (ok-whole a p) ∙ ap (ok a) i) (sym z) (ℕ-discrete q (8 * length s′))
+
+    -- and bytes that end before the place get 1
+    pub file-needed : (s s′ : List ℕ) → SameBits s s′ (8 * length s′) → 8 * length s′ < place (readFile f s) → readFile f s′ ≡ bad 1 (8 * length s′)
+    unfolding closed andThen
+    file-needed s s′ g h =
+        file-is s′ ∙ ap (closed s′) (front-reads s .needed s′ g (omega arith) (omega (arith, ap place (file-is s), closed-place s (front s 0))))

@@ -1,6 +1,7 @@
--- Laws of the answers. In order: an answer to reading and the result behind it, what judging says of the rules, the last cursor, the end of the bytes, what
+-- Laws of the answers. In order: an answer to reading and the result behind it, the bits taken, what judging says of the rules, the last cursor, the end of the bytes, what
 -- writing answers and leaves.
-use mathlib.Core.Path.{_≡_, refl, sym, ap, _∙_}
+use mathlib.Core.Path.{_≡_, refl, sym, ap, _∙_, subst}
+use mathlib.Core.Logic.{_⊎_, inl, inr}
 use mathlib.Core.List.{List, [], _∷_, _++_}
 use mathlib.Core.Option.{none, some}
 use Prim.Native.Nat.{ℕ, _*_, _/_, _%_, _≤_, _<_}
@@ -10,18 +11,20 @@ use borrow.Author.Tests.{le-leb, lt-leb, eq-eqb, ne-eqb}
 use lib.Dec.{eqb}
 use lib.ListN.{length, drop}
 use Rattle.format.specs.Format.{Res, ok, bad}
-use Rattle.format.specs.File.{Bytes, refused, bytes, readFile, writeFile}
+use Rattle.format.specs.File.{SameBits, Bytes, refused, bytes, readFile, writeFile}
 use Rattle.format.specs.Steps.{resOf}
 use Rattle.format.specs.declared.Cursor.{Cursor}
 use Rattle.format.proofs.Fault.{BadAt}
 use Rattle.format.proofs.Bounded.{file-short}
+use Rattle.format.proofs.Cut.{placeOf, file-enough}
 use Rattle.format.proofs.Chain.{res-good, res-bad}
 use Rattle.format.proofs.Round.{write-read, read-judged, refused-judged}
 use Rattle.policy.specs.Policy.{Policy}
 use Rattle.policy.specs.File.{policyFormat}
 use Rattle.policy.proofs.Bound.{bounded-policy}
+use Rattle.policy.proofs.Cut.{cuts-policy}
 use Rattle.policy.proofs.PolicyLaw.{lawful-policy}
-use Rattle.rules.specs.Answers.{refusal, rules, answerOf, answered, reading, writing, writtenOf, filled}
+use Rattle.rules.specs.Answers.{refusal, rules, answerOf, answered, reading, bitsOf, bitsTaken, writing, writtenOf, filled}
 use Rattle.rules.specs.Claims.{largestFile}
 use Rattle.rules.specs.declared.Reading.{Reading}
 use Rattle.rules.specs.declared.Reading.the-variants as Reading
@@ -57,6 +60,34 @@ refusal-reading s n b = let e = b .is in rw e refl
 pub same-reading : (s s′ : List ℕ) → readFile policyFormat s ≡ readFile policyFormat s′ → reading s ≡ reading s′
 unfolding reading
 same-reading s s′ e = ap answered e
+
+place-bits : (r : Res Policy) → placeOf r ≡ bitsOf r
+unfolding placeOf bitsOf
+place-bits (ok p q) = refl
+place-bits (bad n q) = refl
+
+-- the bits taken are the place of the result
+pub place-taken : (s : List ℕ) → placeOf (readFile policyFormat s) ≡ bitsTaken s
+unfolding bitsTaken
+place-taken s = place-bits (readFile policyFormat s)
+
+pub ok-taken : (s : List ℕ) (p : Policy) (q : ℕ) → readFile policyFormat s ≡ ok p q → bitsTaken s ≡ q
+unfolding bitsTaken bitsOf
+ok-taken s p q e = rw e refl
+
+pub bad-taken : (s : List ℕ) (n q : ℕ) → readFile policyFormat s ≡ bad n q → bitsTaken s ≡ q
+unfolding bitsTaken bitsOf
+bad-taken s n q e = rw e refl
+
+-- the answer to bytes that have the bits taken, from the result behind it
+pub taken-enough : (s s′ : List ℕ) (n q : ℕ) → readFile policyFormat s ≡ bad n q → (n ≡ 1 → ⊥) → SameBits s s′ (bitsTaken s)
+    → ((reading s′ ≡ refusal n) × (bitsTaken s′ ≡ bitsTaken s)) ⊎ ((p : Policy) × ((n ≡ 3) × (8 * length s′ ≡ bitsTaken s) × (reading s′ ≡ rules p)))
+taken-enough s s′ n q d h g = go (file-enough policyFormat cuts-policy s s′ n q d h (subst (SameBits s s′) (bad-taken s n q d) g))
+  where
+    go : (readFile policyFormat s′ ≡ bad n q) ⊎ ((p : Policy) × ((n ≡ 3) × (8 * length s′ ≡ q) × (readFile policyFormat s′ ≡ ok p q)))
+        → ((reading s′ ≡ refusal n) × (bitsTaken s′ ≡ bitsTaken s)) ⊎ ((p : Policy) × ((n ≡ 3) × (8 * length s′ ≡ bitsTaken s) × (reading s′ ≡ rules p)))
+    go (inl e) = inl (refusal-reading s′ n record { place = q; is = e }, bad-taken s′ n q e ∙ sym (bad-taken s n q d))
+    go (inr (p, (z, i, e))) = inr (p, (z, i ∙ sym (bad-taken s n q d), rules-reading s′ p q e))
 
 pub writing-is : (p : Policy) → writing p ≡ writeFile policyFormat p
 unfolding writing

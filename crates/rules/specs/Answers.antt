@@ -37,6 +37,15 @@ answered (bad n q) = refusal n
 unfoldable pub reading : List ℕ → Answer
 reading s = answered (readFile policyFormat s)
 
+-- the bits that were taken: up to the end of the file, or until the number was judged
+unfoldable pub bitsOf : Res Policy → ℕ
+bitsOf (ok p q) = q
+bitsOf (bad n q) = q
+
+-- how many bits reading a file takes [02:T-03]
+unfoldable pub bitsTaken : List ℕ → ℕ
+bitsTaken s = bitsOf (readFile policyFormat s)
+
 -- the rules beside an answer: where a number is given they are those of no file
 unfoldable pub beside : Reading → Rules → Rules
 beside Reading.Accepted r = r

@@ -1,6 +1,5 @@
--- Formats and cut bytes: reading goes on to a place, the bits up to that place are enough to give the same, and none of them can be left out. In order: the
--- place of a result, the law of one reading, that it holds of what readings are made of, the law of a format, that it holds of each way of building one,
--- a whole file.
+-- Which bits reading needs: those up to the place of its result are enough to give the same, and none of them can be left out. In order: the place of a
+-- result, the law, that it holds of what readings are made of, the law of a format and of each way of building one, a whole file.
 use mathlib.Core.Path.{_≡_, refl, sym, ap, _∙_, subst}
 use mathlib.Core.Bool.{Bool, true, false}
 use mathlib.Core.Logic.{_⊎_, inl, inr}
@@ -117,22 +116,26 @@ module _ {A B : Type 0} (f : List ℕ → ℕ → Res A) (g : A → List ℕ →
             needed = λ s′ u i j. short s′ (t .needed s′ u i j);
           }
       go (ok a p) t =
-          let v = G a s p (t .inside) in
           record {
             onward = omega (arith, t .onward, v .onward);
             inside = v .inside;
             one = v .one;
-            enough = λ s′ u i.
-                ok-then (f s′ pos) _ a p (t .enough s′ (agree-less (v .onward) u) (ok-whole a p)) ∙ v .enough s′ u i;
+            enough = λ s′ u i. found s′ (v .onward) u ∙ v .enough s′ u i;
             needed = λ s′ u i j. either s′ u i j (decLt (8 * length s′) p);
           }
         where
-          either : (s′ : List ℕ) → SameBits s s′ (8 * length s′) → pos ≤ 8 * length s′ → 8 * length s′ < placeOf (g a s p) → Dec (8 * length s′ < p) → then s′ ≡ bad 1 (8 * length s′)
-          either s′ u i j (yes l) = short s′ (t .needed s′ u i l)
-          either s′ u i j (no l) =
-              ok-then (f s′ pos) _ a p (t .enough s′ (agree-less (omega arith) u) (ok-whole a p)) ∙ G a s p (t .inside) .needed s′ u (omega arith) j
+          v : Reads (λ s′. g a s′ p) s p (g a s p)
+          v = G a s p (t .inside)
 
--- the law of a format
+          found : (s′ : List ℕ) {m : ℕ} → p ≤ m → SameBits s s′ m → then s′ ≡ g a s′ p
+          found s′ l u = ok-then (f s′ pos) _ a p (t .enough s′ (agree-less l u) (ok-whole a p))
+
+          either : (s′ : List ℕ) → SameBits s s′ (8 * length s′) → pos ≤ 8 * length s′ → 8 * length s′ < placeOf (g a s p) → Dec (8 * length s′ < p)
+              → then s′ ≡ bad 1 (8 * length s′)
+          either s′ u i j (yes l) = short s′ (t .needed s′ u i l)
+          either s′ u i j (no l) = found s′ (omega arith) u ∙ v .needed s′ u (omega arith) j
+
+-- so it is of a format
 pub record Cuts {A : Type 0} (f : Format A) : Type 0 where
   pub reads : (s : List ℕ) (pos : ℕ) → pos ≤ 8 * length s → Reads (λ s′. f .read s′ pos) s pos (f .read s pos)
 
@@ -196,7 +199,7 @@ module _ {A : Type 0} where
   goes-filled a s q h =
       goes-then (field ((8 - q % 8) % 8) (eqb 0) 3 .read) (λ x s r. ok a r) (cuts-field ((8 - q % 8) % 8) (eqb 0) 3 (λ e. omega arith) .reads) (λ x. goes-ok a) s q h
 
-  -- nothing follows
+  -- what is given of a file, its filling bits judged: 3 where bytes follow
   closed : List ℕ → Res A → Res A
   closed s r = andThen r (λ a q. tested (eqb q (8 * length s)) 3 a q)
 
@@ -206,6 +209,10 @@ module _ {A : Type 0} where
   closed-place s (ok a q) = tested-place (eqb q (8 * length s)) 3 a q
 
 module _ {A : Type 0} (f : Format A) where
+  -- the bytes s′ get n at the place q, or they end there and are read, where n is 3
+  abbrev pub Again : List ℕ → ℕ → ℕ → Type 0
+  Again s′ n q = (readFile f s′ ≡ bad n q) ⊎ ((a : A) × ((n ≡ 3) × (8 * length s′ ≡ q) × (readFile f s′ ≡ ok a q)))
+
   -- a file up to its last filling bit
   front : List ℕ → ℕ → Res A
   front s pos = andThen (f .read s pos) (λ a q. filled a s q)
@@ -214,13 +221,13 @@ module _ {A : Type 0} (f : Format A) where
   unfolding readFile ended closed front filled andThen
   file-is s = go (f .read s 0)
     where
-      inner : (a : A) (q : ℕ) (r : Res ℕ) → andThen r (λ x p. tested (eqb p (8 * length s)) 3 a p) ≡ closed s (andThen r (λ x p. ok a p))
-      inner a q (bad n p) = refl
-      inner a q (ok x p) = refl
+      filling : (a : A) (r : Res ℕ) → andThen r (λ x p. tested (eqb p (8 * length s)) 3 a p) ≡ closed s (andThen r (λ x p. ok a p))
+      filling a (bad n p) = refl
+      filling a (ok x p) = refl
 
       go : (r : Res A) → andThen r (λ a q. ended s a q) ≡ closed s (andThen r (λ a q. filled a s q))
       go (bad n q) = refl
-      go (ok a q) = inner a q (field ((8 - q % 8) % 8) (eqb 0) 3 .read s q)
+      go (ok a q) = filling a (field ((8 - q % 8) % 8) (eqb 0) 3 .read s q)
 
   -- a file that is read is taken to its end
   pub file-end : (s : List ℕ) (a : A) (q : ℕ) → readFile f s ≡ ok a q → q ≡ 8 * length s
@@ -245,23 +252,21 @@ module _ {A : Type 0} (f : Format A) where
         go (ok a p) t d = absurd (omega (arith, tested-bad (eqb p (8 * length s)) 3 a p 1 q d .0))
 
     -- with another number the bits up to its place are enough; bytes that end there are read where 3 was for bytes that follow
-    pub file-enough : (s s′ : List ℕ) (n q : ℕ) → readFile f s ≡ bad n q → (n ≡ 1 → ⊥) → SameBits s s′ q
-        → (readFile f s′ ≡ bad n q) ⊎ ((a : A) × ((n ≡ 3) × (8 * length s′ ≡ q) × (readFile f s′ ≡ ok a q)))
+    pub file-enough : (s s′ : List ℕ) (n q : ℕ) → readFile f s ≡ bad n q → (n ≡ 1 → ⊥) → SameBits s s′ q → Again s′ n q
     unfolding closed andThen placeOf
     file-enough s s′ n q e h g = go (front s 0) (front-reads s) (sym (file-is s) ∙ e)
       where
         gives : (r : Res A) → front s′ 0 ≡ r → readFile f s′ ≡ closed s′ r
         gives r d = file-is s′ ∙ ap (closed s′) d
 
-        at : (a : A) → front s′ 0 ≡ ok a q → n ≡ 3 → Dec (q ≡ 8 * length s′)
-            → (readFile f s′ ≡ bad n q) ⊎ ((a : A) × ((n ≡ 3) × (8 * length s′ ≡ q) × (readFile f s′ ≡ ok a q)))
+        at : (a : A) → front s′ 0 ≡ ok a q → n ≡ 3 → Dec (q ≡ 8 * length s′) → Again s′ n q
         at a d z (yes i) = inr (a, (z, sym i, gives (ok a q) d ∙ ok-tested (eqb q (8 * length s′)) 3 a q (eq-eqb q (8 * length s′) i)))
         at a d z (no i) = inl (gives (ok a q) d ∙ tested-fails (eqb q (8 * length s′)) 3 a q (ne-eqb q (8 * length s′) i) ∙ ap (λ (x : ℕ). bad x q) (sym z))
 
-        go : (r : Res A) → Reads (λ s′. front s′ 0) s 0 r → closed s r ≡ bad n q
-            → (readFile f s′ ≡ bad n q) ⊎ ((a : A) × ((n ≡ 3) × (8 * length s′ ≡ q) × (readFile f s′ ≡ ok a q)))
+        go : (r : Res A) → Reads (λ s′. front s′ 0) s 0 r → closed s r ≡ bad n q → Again s′ n q
         go (bad m p) t d =
-            inl (gives (bad m p) (t .enough s′ (subst (SameBits s s′) (sym (bad-place m p n q d)) g) (bad-whole m p (λ z. h (let i : m ≡ n = cc in omega arith)))) ∙ d)
+            let i : m ≡ n = cc in
+            inl (gives (bad m p) (t .enough s′ (subst (SameBits s s′) (sym (bad-place m p n q d)) g) (bad-whole m p (λ z. h (omega arith)))) ∙ d)
         go (ok a p) t d =
             let (z, i) = tested-bad (eqb p (8 * length s)) 3 a p n q d in
             at a (t .enough s′ (subst (SameBits s s′) (sym i) g) (ok-whole a p) ∙ ap (ok a) i) (sym z) (ℕ-discrete q (8 * length s′))

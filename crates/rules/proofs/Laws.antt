@@ -16,7 +16,7 @@ use Rattle.format.specs.Steps.{resOf}
 use Rattle.format.specs.declared.Cursor.{Cursor}
 use Rattle.format.proofs.Fault.{BadAt}
 use Rattle.format.proofs.Bounded.{file-short}
-use Rattle.format.proofs.Cut.{placeOf, file-enough}
+use Rattle.format.proofs.Cut.{placeOf, Again, file-enough}
 use Rattle.format.proofs.Chain.{res-good, res-bad}
 use Rattle.format.proofs.Round.{write-read, read-judged, refused-judged}
 use Rattle.policy.specs.Policy.{Policy}
@@ -84,7 +84,7 @@ pub taken-enough : (s s′ : List ℕ) (n q : ℕ) → readFile policyFormat s �
     → ((reading s′ ≡ refusal n) × (bitsTaken s′ ≡ bitsTaken s)) ⊎ ((p : Policy) × ((n ≡ 3) × (8 * length s′ ≡ bitsTaken s) × (reading s′ ≡ rules p)))
 taken-enough s s′ n q d h g = go (file-enough policyFormat cuts-policy s s′ n q d h (subst (SameBits s s′) (bad-taken s n q d) g))
   where
-    go : (readFile policyFormat s′ ≡ bad n q) ⊎ ((p : Policy) × ((n ≡ 3) × (8 * length s′ ≡ q) × (readFile policyFormat s′ ≡ ok p q)))
+    go : Again policyFormat s′ n q
         → ((reading s′ ≡ refusal n) × (bitsTaken s′ ≡ bitsTaken s)) ⊎ ((p : Policy) × ((n ≡ 3) × (8 * length s′ ≡ bitsTaken s) × (reading s′ ≡ rules p)))
     go (inl e) = inl (refusal-reading s′ n record { place = q; is = e }, bad-taken s′ n q e ∙ sym (bad-taken s n q d))
     go (inr (p, (z, i, e))) = inr (p, (z, i ∙ sym (bad-taken s n q d), rules-reading s′ p q e))

@@ -1,5 +1,5 @@
--- Laws of the answers. In order: an answer to reading and the result behind it, the bits taken, what judging says of the rules, the last cursor, the end of the bytes, what
--- writing answers and leaves.
+-- Laws of the answers. In order: an answer to reading and the result behind it, the bits taken, what judging says of the rules, the last cursor, the end of
+-- the bytes, what writing answers and leaves.
 use mathlib.Core.Path.{_≡_, refl, sym, ap, _∙_, subst}
 use mathlib.Core.Logic.{_⊎_, inl, inr}
 use mathlib.Core.List.{List, [], _∷_, _++_}

@@ -14,19 +14,13 @@ use lib.Seq.{length-take-le, take-all}
 use Rattle.bits.specs.Field.{bitAt}
 use Rattle.bits.proofs.Laws.{number-is, number-ext}
 use Rattle.format.specs.Format.{Res, ok, bad, Format, tested, andThen, taken, field, check, rowsRead, rows, pair, via, zeros}
-use Rattle.format.specs.File.{ended, readFile}
+use Rattle.format.specs.File.{SameBits, ended, readFile}
 use Rattle.format.proofs.Fault.{then-ok, tested-ok, taken-value, taken-ok}
 
--- both have n bits, and these are the same
-pub record Agree (s s′ : List ℕ) (n : ℕ) : Type 0 where
-  pub left : n ≤ 8 * length s
-  pub right : n ≤ 8 * length s′
-  pub bits : (i : ℕ) → i < n → bitAt s i ≡ bitAt s′ i
-
-agree-less : {s s′ : List ℕ} {m n : ℕ} → m ≤ n → Agree s s′ n → Agree s s′ m
+pub agree-less : {s s′ : List ℕ} {m n : ℕ} → m ≤ n → SameBits s s′ n → SameBits s s′ m
 agree-less h g = record { left = omega (arith, g .left); right = omega (arith, g .right); bits = λ i l. g .bits i (omega arith) }
 
-agree-taken : (s s′ : List ℕ) (pos w : ℕ) → Agree s s′ (pos + w) → taken s pos w ≡ taken s′ pos w
+pub agree-taken : (s s′ : List ℕ) (pos w : ℕ) → SameBits s s′ (pos + w) → taken s pos w ≡ taken s′ pos w
 agree-taken s s′ pos w g =
     taken-value s pos w (g .left)
     ∙ ap (λ (x : ℕ). ok x (pos + w))
@@ -38,7 +32,7 @@ take-byte s k j h l =
     sym (List·getD-append (take k s) (drop k s) 0 j (omega (arith, length-take-le k s l))) ∙ ap (λ (r : List ℕ). getD r j 0) (take-append-drop k s)
 
 -- the first k bytes, in the bits of the first m
-agree-take : (s : List ℕ) (k m : ℕ) → m ≤ k → k ≤ length s → Agree (take k s) s (8 * m)
+agree-take : (s : List ℕ) (k m : ℕ) → m ≤ k → k ≤ length s → SameBits (take k s) s (8 * m)
 unfolding bitAt
 agree-take s k m h l =
     record {
@@ -62,7 +56,7 @@ same-place a b p q e = cc
 -- what is read has the property P and ends at most n bits on; bytes that agree in these bits read the same
 pub record Bounded {A : Type 0} (f : Format A) (P : A → Type 0) (n : ℕ) : Type 0 where
   pub has : (s : List ℕ) (pos : ℕ) (a : A) (q : ℕ) → f .read s pos ≡ ok a q → (P a) × (q ≤ pos + n)
-  pub same : (s s′ : List ℕ) (pos : ℕ) → Agree s s′ (pos + n) → f .read s pos ≡ f .read s′ pos
+  pub same : (s s′ : List ℕ) (pos : ℕ) → SameBits s s′ (pos + n) → f .read s pos ≡ f .read s′ pos
 
 -- no property
 abbrev pub Any : {A : Type 0} → A → Type 0
@@ -145,7 +139,7 @@ module _ {A : Type 0} (f : List A → Format A) {P : List A → A → Type 0} {n
       then-ok (f l .read s pos) _ m q e λ a p e₀ e₁.
       omega (arith, each l .has s pos a p e₀ .1, rows-place c (l ++ a ∷ []) s p m q e₁, suc-mul c n)
 
-  rows-same : (c : ℕ) (l : List A) (s s′ : List ℕ) (pos : ℕ) → Agree s s′ (pos + c * n) → rowsRead f s l c pos ≡ rowsRead f s′ l c pos
+  rows-same : (c : ℕ) (l : List A) (s s′ : List ℕ) (pos : ℕ) → SameBits s s′ (pos + c * n) → rowsRead f s l c pos ≡ rowsRead f s′ l c pos
   unfolding rowsRead
   rows-same zero l s s′ pos g = refl
   rows-same (suc c) l s s′ pos g =
@@ -176,7 +170,7 @@ module _ {A : Type 0} (f : Format A) {P : A → Type 0} {n : ℕ} (b : Bounded f
       omega (arith, b .has s 0 c p e₀ .1, bounded-field w (eqb 0) 3 .has s p x r e₂ .1)
 
   -- longer bytes that agree in the first m read the same
-  file-same : (s s′ : List ℕ) → Agree s s′ (8 * m) → m < length s → m < length s′ → readFile f s ≡ readFile f s′
+  file-same : (s s′ : List ℕ) → SameBits s s′ (8 * m) → m < length s → m < length s′ → readFile f s ≡ readFile f s′
   unfolding readFile ended
   file-same s s′ g l l′ =
       agree-then (f .read s 0) (f .read s′ 0) _ _ (b .same s s′ 0 (agree-less (omega arith) g)) λ a p e.

@@ -9,3 +9,4 @@ pub mod Round  -- whole files: read, written, refused
 pub mod Gives  -- which numbers judging can give
 pub mod Refuses  -- which numbers reading can give
 pub mod Bounded  -- how many bits reading takes at most
+pub mod Cut  -- which bits reading needs

@@ -1,12 +1,20 @@
 -- A whole file that has a format: read, with the filling bits at its end, and written.
 -- Assumes nothing.
+use mathlib.Core.Path.{_≡_}
 use mathlib.Core.List.{List, [], _∷_}
 use mathlib.Core.Option.{Option, none, some}
-use Prim.Native.Nat.{ℕ, _-_, _*_, _%_, _^_, _<_}
+use Prim.Native.Nat.{ℕ, _-_, _*_, _%_, _^_, _≤_, _<_}
 use lib.Dec.{eqb}
 use lib.ListN.{length}
+use Rattle.bits.specs.Field.{bitAt}
 use Rattle.bits.specs.Packed.{packed}
 use Rattle.format.specs.Format.{Res, Format, tested, andThen, field}
+
+-- both have n bits, and these are the same
+pub record SameBits (s s′ : List ℕ) (n : ℕ) : Type 0 where
+  pub left : n ≤ 8 * length s
+  pub right : n ≤ 8 * length s′
+  pub bits : (i : ℕ) → i < n → bitAt s i ≡ bitAt s′ i
 
 -- every number fits its bits
 abbrev pub Fit : List (ℕ × ℕ) → Type 0

@@ -7,3 +7,4 @@ pub mod Numbers  -- which numbers writing can give
 pub mod ReadNumbers  -- which numbers reading can give
 pub mod ListFaults  -- what 18 and 19 say of rules in memory
 pub mod Bound  -- the bits of the largest rule file
+pub mod Cut  -- which bits of a rule file reading needs

@@ -1,6 +1,7 @@
--- Laws of the answers. In order: an answer to reading and the result behind it, what judging says of the rules, the last cursor, the end of the bytes, what
--- writing answers and leaves.
-use mathlib.Core.Path.{_≡_, refl, sym, ap, _∙_}
+-- Laws of the answers. In order: an answer to reading and the result behind it, the bits taken, what judging says of the rules, the last cursor, the end of
+-- the bytes, what writing answers and leaves.
+use mathlib.Core.Path.{_≡_, refl, sym, ap, _∙_, subst}
+use mathlib.Core.Logic.{_⊎_, inl, inr}
 use mathlib.Core.List.{List, [], _∷_, _++_}
 use mathlib.Core.Option.{none, some}
 use Prim.Native.Nat.{ℕ, _*_, _/_, _%_, _≤_, _<_}
@@ -10,16 +11,18 @@ use borrow.Author.Tests.{le-leb, lt-leb, eq-eqb, ne-eqb}
 use lib.Dec.{eqb}
 use lib.ListN.{length, drop}
 use Rattle.format.specs.Format.{Res, ok, bad}
-use Rattle.format.specs.File.{Bytes, refused, bytes, readFile, writeFile}
+use Rattle.format.specs.File.{SameBits, Bytes, refused, bytes, readFile, writeFile}
 use Rattle.format.specs.Steps.{resOf, Once}
 use Rattle.format.specs.declared.Cursor.{Cursor}
 use Rattle.format.proofs.Fault.{BadAt}
 use Rattle.format.proofs.Bounded.{file-short}
+use Rattle.format.proofs.Cut.{placeOf, Again, file-enough}
 use Rattle.format.proofs.Chain.{res-good, res-bad}
 use Rattle.format.proofs.Round.{write-read, read-judged, refused-judged}
 use Rattle.policy.specs.Policy.{Policy}
 use Rattle.policy.specs.File.{policyFormat}
 use Rattle.policy.proofs.Bound.{bounded-policy}
+use Rattle.policy.proofs.Cut.{cuts-policy}
 use Rattle.policy.proofs.PolicyLaw.{lawful-policy}
 use Rattle.rules.specs.Answers.{refusal, rules, answerOf, answered, reading, bitsOf, bitsTaken, writing, writtenOf, filled}
 use Rattle.rules.specs.Claims.{largestFile}
@@ -58,6 +61,34 @@ pub same-reading : (s s′ : List ℕ) → readFile policyFormat s ≡ readFile 
 unfolding reading
 same-reading s s′ e = ap answered e
 
+place-bits : (r : Res Policy) → placeOf r ≡ bitsOf r
+unfolding placeOf bitsOf
+place-bits (ok p q) = refl
+place-bits (bad n q) = refl
+
+-- the bits taken are the place of the result
+pub place-taken : (s : List ℕ) → placeOf (readFile policyFormat s) ≡ bitsTaken s
+unfolding bitsTaken
+place-taken s = place-bits (readFile policyFormat s)
+
+pub ok-taken : (s : List ℕ) (p : Policy) (q : ℕ) → readFile policyFormat s ≡ ok p q → bitsTaken s ≡ q
+unfolding bitsTaken bitsOf
+ok-taken s p q e = rw e refl
+
+pub bad-taken : (s : List ℕ) (n q : ℕ) → readFile policyFormat s ≡ bad n q → bitsTaken s ≡ q
+unfolding bitsTaken bitsOf
+bad-taken s n q e = rw e refl
+
+-- the answer to bytes that have the bits taken, from the result behind it
+pub taken-enough : (s s′ : List ℕ) (n q : ℕ) → readFile policyFormat s ≡ bad n q → (n ≡ 1 → ⊥) → SameBits s s′ (bitsTaken s)
+    → ((reading s′ ≡ refusal n) × (bitsTaken s′ ≡ bitsTaken s)) ⊎ ((p : Policy) × ((n ≡ 3) × (8 * length s′ ≡ bitsTaken s) × (reading s′ ≡ rules p)))
+taken-enough s s′ n q d h g = go (file-enough policyFormat cuts-policy s s′ n q d h (subst (SameBits s s′) (bad-taken s n q d) g))
+  where
+    go : Again policyFormat s′ n q
+        → ((reading s′ ≡ refusal n) × (bitsTaken s′ ≡ bitsTaken s)) ⊎ ((p : Policy) × ((n ≡ 3) × (8 * length s′ ≡ bitsTaken s) × (reading s′ ≡ rules p)))
+    go (inl e) = inl (refusal-reading s′ n record { place = q; is = e }, bad-taken s′ n q e ∙ sym (bad-taken s n q d))
+    go (inr (p, (z, i, e))) = inr (p, (z, i ∙ sym (bad-taken s n q d), rules-reading s′ p q e))
+
 pub writing-is : (p : Policy) → writing p ≡ writeFile policyFormat p
 unfolding writing
 writing-is p = refl
@@ -68,14 +99,6 @@ reading-judged s p e = reading-rules s p e (λ q f. read-judged policyFormat law
 
 pub writing-judged : (p : Policy) (n : ℕ) → writing p ≡ refused n → policyFormat .judge p ≡ some n
 writing-judged p n e = refused-judged policyFormat p n (sym (writing-is p) ∙ e)
-
-bits-of : (c : Cursor) (p : Policy) → bitsOf (resOf c p) ≡ c .pos
-unfolding bitsOf
-bits-of c p = go (decLt 0 (c .number))
-  where
-    go : Dec (0 < c .number) → bitsOf (resOf c p) ≡ c .pos
-    go (yes h) = rw (res-bad c p h) refl
-    go (no h) = rw (res-good c p (omega arith)) refl
 
 module _ (s : List ℕ) (c : Cursor) (p : Policy) (e : resOf c p ≡ readFile policyFormat s) where
   -- the last cursor has a number: it is the answer
@@ -88,8 +111,11 @@ module _ (s : List ℕ) (c : Cursor) (p : Policy) (e : resOf c p ≡ readFile po
 
   -- and as many bits were taken as stand before its place
   pub ends-bits : Once s c → c .taken ≡ bitsTaken s
-  unfolding bitsTaken
-  ends-bits o = o .count ∙ sym (bits-of c p) ∙ ap bitsOf e
+  ends-bits o = go (decLt 0 (c .number))
+    where
+      go : Dec (0 < c .number) → c .taken ≡ bitsTaken s
+      go (yes h) = o .count ∙ sym (bad-taken s (c .number) (c .pos) (sym e ∙ res-bad c p h))
+      go (no h) = o .count ∙ sym (ok-taken s p (c .pos) (sym e ∙ res-good c p (omega arith)))
 
 -- a place is the end of n bytes exactly when it is n whole bytes on
 pub whole-bytes : (pos n : ℕ) → pos % 8 ≡ 0 → eqb (pos / 8) n ≡ eqb pos (8 * n)

@@ -1,10 +1,13 @@
 -- The claims of specs/Claims.antt, one line each: the laws behind them are proved once, for every lawful or bounded format.
 use mathlib.Core.Path.{sym, _∙_}
+use Prim.Native.Nat.{_*_}
 use native.Mathlib.Omega.{arith}
-use lib.ListN.{take}
+use lib.ListN.{length, take}
 use Rattle.format.proofs.Bounded.{file-short, file-cut}
+use Rattle.format.proofs.Cut.{file-end, file-one, file-needed}
 use Rattle.format.proofs.Round.{write-read, read-write, write-refused}
 use Rattle.policy.proofs.Bound.{bounded-policy}
+use Rattle.policy.proofs.Cut.{cuts-policy}
 use Rattle.policy.proofs.Laws.{fewest-enough, fewest-least}
 use Rattle.policy.proofs.Listed.{one-size, compared-agree}
 use Rattle.policy.proofs.ListFaults.{eighteen-says, nineteen-says, gives-unlisted}
@@ -14,8 +17,9 @@ use Rattle.policy.proofs.PolicyLaw.{lawful-policy}
 use Rattle.policy.specs.File.{policyFormat}
 use Rattle.policy.specs.Rules.{policyOf}
 use Rattle.rules.specs.Claims.{BytesAgain, RulesAgain, ReadingNumbers, WritingNumbers, WritingRefusesAsReading, SizeTakesFewestBits}
-use Rattle.rules.specs.Claims.{OneSizePerList, ComparedListsAgree, ListZeroFitsAll, ListFaults, largestFile, FrontDecides}
+use Rattle.rules.specs.Claims.{OneSizePerList, ComparedListsAgree, ListZeroFitsAll, ListFaults, largestFile, FrontDecides, BitsTaken}
 use Rattle.rules.proofs.Laws.{reading-rules, reading-refusal, rules-reading, refusal-reading, same-reading, writing-is, reading-judged, writing-judged}
+use Rattle.rules.proofs.Laws.{place-taken, ok-taken, bad-taken, taken-enough}
 
 pub bytes-again : BytesAgain
 bytes-again s p b e = reading-rules s p e (λ q f. writing-is p ∙ read-write policyFormat lawful-policy p s q b f .0)
@@ -62,4 +66,15 @@ front-decides =
     record {
       same = λ s k h. same-reading (take k s) s (file-cut policyFormat bounded-policy largestFile (omega arith) s k h);
       short = λ s p e. reading-rules s p e (λ q f. file-short policyFormat bounded-policy largestFile (omega arith) s p q f);
+    }
+
+pub bits-taken : BitsTaken
+bits-taken =
+    record {
+      accepted = λ s p e. reading-rules s p e (λ q d. ok-taken s p q d ∙ file-end policyFormat s p q d);
+      cut = λ s e. reading-refusal s 1 e (λ q d. bad-taken s 1 q d ∙ file-one policyFormat cuts-policy s q d);
+      enough = λ s s′ n e h g. reading-refusal s n e (λ q d. taken-enough s s′ n q d h g);
+      needed = λ s s′ g h.
+          let d = file-needed policyFormat cuts-policy s s′ g (omega (arith, place-taken s)) in
+          refusal-reading s′ 1 record { place = 8 * length s′; is = d };
     }

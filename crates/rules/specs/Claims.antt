@@ -7,13 +7,13 @@ use Prim.Native.Nat.{ℕ, _+_, _*_, _^_, _≤_, _<_}
 use lib.ListN.{length, getD, take}
 use Rattle.bits.specs.Field.{numberAt}
 use Rattle.bits.specs.Packed.{packed}
-use Rattle.format.specs.File.{Fit, refused, bytes}
+use Rattle.format.specs.File.{SameBits, Fit, refused, bytes}
 use Rattle.policy.specs.Policy.{Attr, noAttr, Policy, fewestBits}
 use Rattle.policy.specs.Nodes.{opOf, firstOf, secondOf, holderOf, named}
 use Rattle.policy.specs.File.{policyFormat}
 use Rattle.policy.specs.Rules.{policyOf}
 use Rattle.policy.specs.declared.Rules.{Rules}
-use Rattle.rules.specs.Answers.{refusal, rules, reading, writing}
+use Rattle.rules.specs.Answers.{refusal, rules, reading, bitsTaken, writing}
 
 -- every element is a byte
 abbrev pub Bytes : List ℕ → Type 0
@@ -109,3 +109,16 @@ largestFile = 2069
 pub record FrontDecides : Type 0 where
   pub same : (s : List ℕ) (k : ℕ) → largestFile < k → reading (take k s) ≡ reading s
   pub short : (s : List ℕ) (p : Policy) → reading s ≡ rules p → length s ≤ largestFile
+
+-- [02:T-03, "It counts the bits it takes and returns the count"]
+pub record BitsTaken : Type 0 where
+  -- with the rules or with 1 exactly 8 times the file's bytes
+  pub accepted : (s : List ℕ) (p : Policy) → reading s ≡ rules p → bitsTaken s ≡ 8 * length s
+  pub cut : (s : List ℕ) → reading s ≡ refusal 1 → bitsTaken s ≡ 8 * length s
+  -- with another number the bits read until that was judged: bytes that have these bits get the same number and the same count, or they are
+  -- accepted, where 3 was given for bytes that follow the filling bits and now none follow
+  pub enough : (s s′ : List ℕ) (n : ℕ) → reading s ≡ refusal n → (n ≡ 1 → ⊥) → SameBits s s′ (bitsTaken s)
+      → ((reading s′ ≡ refusal n) × (bitsTaken s′ ≡ bitsTaken s))
+      ⊎ ((p : Policy) × ((n ≡ 3) × (8 * length s′ ≡ bitsTaken s) × (reading s′ ≡ rules p)))
+  -- and none of the bits taken can be left out: bytes that end before the last of them get 1
+  pub needed : (s s′ : List ℕ) → SameBits s s′ (8 * length s′) → 8 * length s′ < bitsTaken s → reading s′ ≡ refusal 1

@@ -19,7 +19,7 @@ returns c =
     let a = c .before .before .before .before .before .before .before .before .args in
     let d = c .before .answer .given .1 in
     let e = was-refused (a .file .now) (q .result .answer) (policyOf (q .result .rules)) (q .ensures .0) _ d in
-    (start-refused e _ _, no-rules-read e _ (beside-number _ _ (q .ensures .1) d))
+    (start-refused e _ _, no-rules-read e _ (beside-number _ _ (q .ensures .1 .0) d))
 
 enum-told : tie.Need-enum-told
 enum-told c = search needs

@@ -4,17 +4,19 @@ use mathlib.Core.Path.{_≡_, refl, sym, ap, subst, _∙_}
 use mathlib.Core.Bool.{Bool, true}
 use mathlib.Core.List.{List, [], _∷_}
 use Prim.Native.Nat.{ℕ, suc, _+_, _-_, _*_, _^_, _≤_, _<_}
+use native.Mathlib.Decide.{decLt}
 use native.Mathlib.Nat.{add-mul, mul-assoc, mul-le-mul-left, mul-le-mul-right}
 use native.Mathlib.Numerals.{add-one}
 use native.Mathlib.Omega.{arith}
 use lib.Pow.{pow-add, pow-mono, pow-pos}
 use Rattle.bits.specs.Packed.{tab}
+use Rattle.bits.proofs.Laws.{number-none}
 use Rattle.bits.proofs.Packed.{tab-zero, tab-first}
-use Rattle.format.specs.Format.{taken, field, within}
-use Rattle.format.specs.Steps.{from, resOf, judged}
+use Rattle.format.specs.Format.{ok, taken, field, within}
+use Rattle.format.specs.Steps.{from, resOf, judged, Once}
 use Rattle.format.specs.declared.Cursor.{Cursor}
-use Rattle.format.proofs.Chain.{chain-pair, chain-via, chain-field}
-use Rattle.format.proofs.Fault.{judged-holds, judged-pos}
+use Rattle.format.proofs.Chain.{from-good, res-good, chain-skip, chain-pair, chain-via, chain-field}
+use Rattle.format.proofs.Fault.{judged-holds, judged-pos, taken-value}
 use Rattle.policy.specs.Policy.{Attr, bitsFor, codes, width}
 use Rattle.policy.specs.File.{valueFormat}
 use Rattle.policy.specs.Rules.{attrAt, attrsOf}
@@ -121,11 +123,24 @@ module _ (s : List ℕ) (c : Class) (at : Cursor) where
         let f : v * 1 + 1 ≤ 256 = subst (λ (z : ℕ). v * z + z ≤ 256) last-power (r .fits) in
         omega arith
 
-    pub partly-all : (t : Cursor) (x : ℕ) → resOf t x ≡ from p (λ q. taken s q 0) → x < 2 ^ 0 → resOf t v ≡ from at (valueFormat (attrsOf c) .read s)
+    -- the last field, of no bits, is there
+    no-bits : Once s p → resOf p 0 ≡ from p (λ q. taken s q 0)
+    no-bits o = go (decLt 0 (p .number))
+      where
+        go : Dec (0 < p .number) → resOf p 0 ≡ from p (λ q. taken s q 0)
+        go (yes z) = chain-skip (λ q. taken s q 0) p 0 z
+        go (no z) =
+            let none : taken s (p .pos) 0 ≡ ok 0 (p .pos) =
+            taken-value s (p .pos) 0 (omega (arith, o .inside))
+            ∙ ap (λ (x : ℕ). ok x (p .pos + 0)) (number-none s (p .pos))
+            ∙ ap (ok 0) (omega arith) in
+            res-good p 0 (omega arith) ∙ sym (from-good p _ (omega arith) ∙ none)
+
+    pub partly-all : Once s p → resOf p v ≡ from at (valueFormat (attrsOf c) .read s)
     unfolding valueFormat
-    partly-all t x e k =
-        let none : resOf t x ≡ from p (valueFormat [] .read s) =
-        ap (λ (z : Cursor). resOf z x) (sym (judged-holds t 6)) ∙ chain-field 0 (λ _. true) 6 s p t x true e refl (omega arith) in
-        let same : v ≡ v * 1 + x = omega arith in
-        ap (λ (z : ℕ). resOf t z) (same ∙ ap (λ (z : ℕ). v * z + x) (sym last-power))
-        ∙ r .whole t x (none ∙ ap (λ (m : List Attr). from p (valueFormat m .read s)) (sym (rest-none c i h)))
+    partly-all o =
+        let none : resOf p 0 ≡ from p (valueFormat [] .read s) =
+        ap (λ (z : Cursor). resOf z 0) (sym (judged-holds p 6)) ∙ chain-field 0 (λ _. true) 6 s p p 0 true (no-bits o) refl (omega arith) in
+        let same : v ≡ v * 1 + 0 = omega arith in
+        ap (λ (z : ℕ). resOf p z) (same ∙ ap (λ (z : ℕ). v * z + 0) (sym last-power))
+        ∙ r .whole p 0 (none ∙ ap (λ (m : List Attr). from p (valueFormat m .read s)) (sym (rest-none c i h)))

@@ -20,7 +20,7 @@ use policy::Values;
 use policy::shape::bits_for;
 use policy::shape::code_ok;
 
-// A holder's value: its attributes' values side by side, and a field of no bits after them, which asks that they end within the bytes.
+// A holder's value: its attributes' values side by side. The format's last field, of no bits, is there wherever the place is within the bytes.
 fn read_value(s: &[u8], at: Cursor, class: Class) -> Taken
     requires { ⌜ (at .pos < 2 ^ 38) × Narrow class × Once (now s) at ⌝ }
     ensures { λ r. ⌜ resOf (r .at) (r .value) ≡ from at (valueFormat (attrsOf class) .read (now (s .entry))) ⌝ }
@@ -41,9 +41,7 @@ fn read_value(s: &[u8], at: Cursor, class: Class) -> Taken
         v = (v << w) + x;
         p = next;
     }
-    let end = take(s, p, 0);
-    let next = end.at;
-    Taken { at: next, value: v }
+    Taken { at: p, value: v }
 }
 
 // The values of n holders of a class.

@@ -1,6 +1,6 @@
 -- `reader::values::read_value` meets its contract. The loop's invariant: the values of the attributes so far, with what is read for the others, are
--- the value that the format reads, whatever the lists, and both fit 8 bits. The measure is how many attributes are left. The last step is the
--- format's field of no bits. Assumes nothing.
+-- the value that the format reads, whatever the lists, and both fit 8 bits. The measure is how many attributes are left. Assumes
+-- nothing.
 use mathlib.Core.Path.{_≡_, ap, _∙_}
 use mathlib.Core.List.{[]}
 use Prim.Native.Nat.{ℕ, _+_, _-_, _*_, _%_, _^_, _≤_}
@@ -95,23 +95,18 @@ loop-again c =
       judged-once _ _ (c .judged .ensures) (t .ensures .1 .1),
     )
 
-take-requires-2 : tie.Need-take-requires-2 Inv-loop μ-loop
-take-requires-2 c κs = let l = c .before .loop in (omega arith, omega (arith, l .inv .2 .place), l .inv .3)
-
 returns : tie.Need-returns Inv-loop μ-loop
 returns c =
-    let t = c .before .take2 in
-    let l = c .before .before .before .loop in
-    let a = c .before .before .before .before .before .before .before .before .args in (
-      partly-all (a .s .now) (withoutLists (a .class)) (a .at) (l .p) (l .v) (l .i) (omega arith) (l .inv .2) (t .result .at) (t .result .value)
-          (res-bits (a .s .now) (l .p) 0 (t .result) (t .ensures .0)) (t .ensures .1 .0 .fits)
+    let l = c .before .loop in
+    let a = c .before .before .before .before .before .before .args in (
+      partly-all (a .s .now) (withoutLists (a .class)) (a .at) (l .p) (l .v) (l .i) (omega arith) (l .inv .2) (l .inv .3)
           ∙ ap (λ (f : Format ℕ). from (a .at) (f .read (a .s .now))) (value-any (a .class)),
       (
         (
-          omega (arith, t .ensures .1 .0 .place, l .inv .2 .place),
+          omega (arith, l .inv .2 .place),
           partly-below (a .s .now) (withoutLists (a .class)) (a .at) (l .p) (l .v) (l .i) (omega arith) (l .inv .2),
         ),
-        t .ensures .1 .1,
+        l .inv .3,
       ),
     )
 
@@ -136,5 +131,4 @@ read-value-spec =
     add-i
     loop-less
     loop-again
-    take-requires-2
     returns)

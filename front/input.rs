@@ -156,11 +156,14 @@ fn of_text(name: String, text: String) -> Result<Input, Failure> {
     Ok(Input { name, bytes, taken, rules, text: Some(text), reports, names_lost: false })
 }
 
-/// Holds the rules to the bytes: the library reads them, writes them back the same, and they are the rules' own.
+/// Holds the rules to the bytes: the library reads all their bits, writes them back the same, and they are the rules' own.
 fn checked(rules: &Rules, bytes: &[u8]) -> Taken {
     let (read, taken) = place::read(bytes);
     if let Err(number) = read {
         internal(&format!("the library refuses an assembled file: {number}"));
+    }
+    if taken.bits != 8 * bytes.len() as u64 {
+        internal("the library counts other bits than an accepted file has");
     }
     if library::write_back(bytes).as_deref() != Ok(bytes) {
         internal("the library writes an assembled file back as another");

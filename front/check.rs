@@ -1,4 +1,4 @@
-//! `rules check`: each `expect` line of a text, and the notes on it. Its faults and warnings are told before.
+//! `rules check`: each `expect` line of a text, and the notes on it; with `-v`, how far the file was read. Its faults and warnings are told before.
 
 use crate::answer::{answer, Answer};
 use crate::ask;
@@ -43,7 +43,7 @@ pub fn run(input: &Input, options: &Options) -> Printed {
 fn words(input: &Input, all: &[Checked], options: &Options) -> String {
     let width = all.iter().map(|checked| checked.expectation.place.line.to_string().len()).max().unwrap_or(0);
     let shown = all.iter().filter(|checked| !options.quiet || !checked.met());
-    let mut out = String::new();
+    let mut out = if options.verbose { input.taken.line() + "\n" } else { String::new() };
     for checked in shown {
         out += &checked_words(input, checked, width, options.colour);
         out += &ask::raw(checked.expectation.question, &checked.told, width + 11, options);
@@ -87,6 +87,7 @@ fn object(input: &Input, all: &[Checked]) -> Json {
     Json::Object(vec![
         ("command", Json::text("check")),
         ("file", input.json()),
+        ("bits", Json::Number(input.taken.bits)),
         ("expectations", Json::List(all.iter().map(|checked| checked_json(input, checked)).collect())),
         ("warnings", reports(Severity::Warning)),
         ("notes", reports(Severity::Note)),

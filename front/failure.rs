@@ -39,7 +39,11 @@ pub fn warnings(input: &Input, options: &Options) -> String {
 /// What a command prints where there is no answer.
 pub fn printed(failure: &Failure, command: &str, options: &Options) -> Printed {
     let err = if options.json { String::new() } else { in_words(failure, options.error_colour) };
-    let out = if options.json { format!("{}\n", object(failure, command)) } else { String::new() };
+    let out = match failure {
+        _ if options.json => format!("{}\n", object(failure, command)),
+        Failure::Refused { taken, .. } if command == "check" && options.verbose => taken.line() + "\n",
+        _ => String::new(),
+    };
     Printed { out, err, status: NO_ANSWER, ..Printed::default() }
 }
 
@@ -69,7 +73,7 @@ fn keys(command: &str) -> &'static [&'static str] {
     match command {
         "ask" => &["question", "verdict", "pairs", "values", "steps"],
         "explain" => &["question", "verdict", "pairs", "values", "steps", "parts", "together"],
-        "check" => &["expectations", "warnings", "notes", "met", "not_met"],
+        "check" => &["bits", "expectations", "warnings", "notes", "met", "not_met"],
         "replay" => &["question", "steps", "refused", "fits"],
         "assemble" => &["warnings"],
         "list" | "example" | "help" => &["text"],
@@ -78,26 +82,40 @@ fn keys(command: &str) -> &'static [&'static str] {
     }
 }
 
-/// The command's object without an answer: its own keys are null, but for the verdict `refused`.
+/// The command's object without an answer: its own keys are null, but for what is said of a refusal.
 fn object(failure: &Failure, command: &str) -> Json {
     let named = |name: Json| Json::Object(vec![("name", name), ("bytes", Json::Null), ("sha256", Json::Null)]);
-    let (file, number) = match failure {
-        Failure::Said { .. } => (named(Json::Null), None),
-        Failure::Question { file, .. } => (file.clone(), None),
-        Failure::Faults { name, .. } => (named(Json::text(name)), None),
-        Failure::Refused { file, number, .. } => (file.clone(), Some(*number)),
+    let file = match failure {
+        Failure::Said { .. } => named(Json::Null),
+        Failure::Faults { name, .. } => named(Json::text(name)),
+        Failure::Question { file, .. } | Failure::Refused { file, .. } => file.clone(),
     };
     let mut members = vec![("command", Json::text(command)), ("file", file)];
-    for key in keys(command) {
-        let refused = number.is_some() && *key == "verdict";
-        members.push((*key, if refused { Json::text("refused") } else { Json::Null }));
-    }
-    if let Some(number) = number {
-        members.push(("number", Json::Number(u64::from(number))));
-        members.push(("words", Json::text(numbers::words(number))));
+    members.extend(keys(command).iter().map(|key| (*key, Json::Null)));
+    for (key, value) in refusal(failure) {
+        match members.iter_mut().find(|member| member.0 == key) {
+            Some(member) => member.1 = value,
+            None if key == "verdict" => (),
+            None => members.push((key, value)),
+        }
     }
     members.push(("errors", Json::List(errors(failure))));
     Json::Object(members)
+}
+
+/// What is said of a number of the library. A command that gives no verdict has none here.
+fn refusal(failure: &Failure) -> Vec<(&'static str, Json)> {
+    let (number, bits, place) = match failure {
+        Failure::Refused { number, taken, place, .. } => (*number, taken.bits, place),
+        _ => return Vec::new(),
+    };
+    vec![
+        ("verdict", Json::text("refused")),
+        ("number", Json::Number(u64::from(number))),
+        ("words", Json::text(numbers::words(number))),
+        ("bits", Json::Number(bits)),
+        ("place", place.as_ref().map_or(Json::Null, |place| Json::text(place))),
+    ]
 }
 
 fn errors(failure: &Failure) -> Vec<Json> {

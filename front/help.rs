@@ -51,6 +51,7 @@ usage: rules check RULES...
 
 Shows all faults and warnings of texts, and asks the question of every line `expect anna never agree` or `expect carla can agree on line_4711`.
 With --strict a warning is a fault; with --names TEXT a rule file is checked by the expectations of its text.
+With -v it also says how many bits of the rule file were read; of a text, of the rule file that it makes.
 Exit status: 0 all are met, 1 one is not, 2 no answer, 3 internal error.
 ",
     ),
@@ -95,8 +96,8 @@ Exit status: 0 written, 2 not written, 3 internal error.
 ];
 
 const OPTIONS: &str = "
-Options of all commands: --json (one object on one line), --colour auto|always|never, -q (less), -v (more: question bytes and rows), -h (help),
--- (no options follow).
+Options of all commands: --json (one object on one line), --colour auto|always|never, -q (less),
+-v (more: question bytes and rows; of check also how many bits were read), -h (help), -- (no options follow).
 ";
 
 /// The help for a command, or for all.

@@ -6,6 +6,8 @@ use crate::json::Json;
 use crate::library;
 use crate::model::{Question, Rules, Who};
 use crate::phrase;
+use crate::place::{self, Taken};
+use crate::place_messages::{at_bit, at_place};
 use crate::printed::internal;
 use crate::report::{Place, Report, Severity};
 use crate::{bits, differing, file, grammar, numbers, sha256};
@@ -15,6 +17,8 @@ use std::io::Read;
 pub struct Input {
     pub name: String,
     pub bytes: Vec<u8>,
+    /// How far the library read these bytes.
+    pub taken: Taken,
     pub rules: Rules,
     pub text: Option<String>,
     pub reports: Vec<Report>,
@@ -30,8 +34,8 @@ pub enum Failure {
     Faults { name: String, text: String, reports: Vec<Report> },
     /// What is wrong with the question; `file` is the rules' object.
     Question { file: Json, report: Report },
-    /// A number of the library, said of a whole file (line 0) or of places in a text.
-    Refused { name: String, file: Json, text: String, number: u32, reports: Vec<Report> },
+    /// A number of the library, said of a whole file (line 0) or of places in a text; `place` is where the file itself was refused.
+    Refused { name: String, file: Json, text: String, number: u32, taken: Taken, place: Option<String>, reports: Vec<Report> },
 }
 
 impl Failure {
@@ -77,9 +81,9 @@ pub fn reason(error: &std::io::Error) -> String {
 /// Reads rules; a rule file gets the names of a text that assembles to the same bytes.
 pub fn load(argument: &str, names: Option<&str>) -> Result<Input, Failure> {
     let (name, bytes) = contents(argument)?;
-    let number = match library::read(&bytes) {
-        Ok(()) => return of_file(name, bytes, names),
-        Err(number) => number,
+    let (number, taken) = match place::read(&bytes) {
+        (Ok(()), _) => return of_file(name, bytes, names),
+        (Err(number), taken) => (number, taken),
     };
     match std::str::from_utf8(&bytes) {
         Ok(text) if bytes.iter().all(|byte| *byte >= 9) => {
@@ -88,11 +92,11 @@ pub fn load(argument: &str, names: Option<&str>) -> Result<Input, Failure> {
             }
             of_text(name, text.to_string())
         }
-        _ => Err(refused_file(name, &bytes, number)),
+        _ => Err(refused_file(name, &bytes, number, taken)),
     }
 }
 
-fn refused_file(name: String, bytes: &[u8], number: u32) -> Failure {
+fn refused_file(name: String, bytes: &[u8], number: u32, taken: Taken) -> Failure {
     let help = if bytes.get(3..).map_or(false, |rest| library::read(rest).is_ok()) {
         Some(messages::input_of_rights())
     } else if bytes.starts_with(&[0xFF, 0xFE]) || bytes.starts_with(&[0xFE, 0xFF]) || bytes.iter().all(|byte| *byte >= 9) {
@@ -100,8 +104,11 @@ fn refused_file(name: String, bytes: &[u8], number: u32) -> Failure {
     } else {
         differing::in_file(bytes, number)
     };
-    let report = Report { severity: Severity::Refused, place: Place::default(), message: with_number(numbers::words(number), number), help };
-    Failure::Refused { file: described(&name, bytes), name, text: String::new(), number, reports: vec![report] }
+    let place = place::of(bytes, number, taken.bits);
+    let refusal = with_number(numbers::words(number), number);
+    let message = place.as_ref().map_or_else(|| at_bit(&refusal, taken.bits), |place| at_place(&refusal, taken.bits, place));
+    let report = Report { severity: Severity::Refused, place: Place::default(), message, help };
+    Failure::Refused { file: described(&name, bytes), name, text: String::new(), number, taken, place, reports: vec![report] }
 }
 
 fn with_number(words: &str, number: u32) -> String {
@@ -111,8 +118,8 @@ fn with_number(words: &str, number: u32) -> String {
 /// The rules of a file that the library reads. They must give the same bytes again.
 fn of_file(name: String, bytes: Vec<u8>, names: Option<&str>) -> Result<Input, Failure> {
     let rules = file::rules(&bytes);
-    checked(&rules, &bytes);
-    let mut input = Input { name, bytes, rules, text: None, reports: Vec::new(), names_lost: false };
+    let taken = checked(&rules, &bytes);
+    let mut input = Input { name, bytes, taken, rules, text: None, reports: Vec::new(), names_lost: false };
     if let Some(names) = names {
         let (name, text) = contents(names)?;
         if library::read(&text).is_ok() {
@@ -145,14 +152,18 @@ fn of_text(name: String, text: String) -> Result<Input, Failure> {
         None => return Err(Failure::Faults { name, text, reports }),
     };
     let bytes = bits::bytes(&rules);
-    checked(&rules, &bytes);
-    Ok(Input { name, bytes, rules, text: Some(text), reports, names_lost: false })
+    let taken = checked(&rules, &bytes);
+    Ok(Input { name, bytes, taken, rules, text: Some(text), reports, names_lost: false })
 }
 
-/// Holds the rules to the bytes: the library reads them, writes them back the same, and they are the rules' own.
-fn checked(rules: &Rules, bytes: &[u8]) {
-    if let Err(number) = library::read(bytes) {
+/// Holds the rules to the bytes: the library reads all their bits, writes them back the same, and they are the rules' own.
+fn checked(rules: &Rules, bytes: &[u8]) -> Taken {
+    let (read, taken) = place::read(bytes);
+    if let Err(number) = read {
         internal(&format!("the library refuses an assembled file: {number}"));
+    }
+    if taken.bits != 8 * bytes.len() as u64 {
+        internal("the library counts other bits than an accepted file has");
     }
     if library::write_back(bytes).as_deref() != Ok(bytes) {
         internal("the library writes an assembled file back as another");
@@ -160,6 +171,7 @@ fn checked(rules: &Rules, bytes: &[u8]) {
     if bits::bytes(rules) != bytes || bits::bytes(&file::rules(bytes)) != bytes {
         internal("a file's rules give other bytes");
     }
+    taken
 }
 
 impl Input {
@@ -188,7 +200,8 @@ impl Input {
             let message = with_number(numbers::words(number), number);
             reports.push(Report { severity: Severity::Refused, place: Place::default(), message, help: None });
         }
-        Failure::Refused { name: self.name.clone(), file: self.json(), text: self.text.clone().unwrap_or_default(), number, reports }
+        let text = self.text.clone().unwrap_or_default();
+        Failure::Refused { name: self.name.clone(), file: self.json(), text, number, taken: self.taken, place: None, reports }
     }
 
     /// Whether the file with this starting session alone gets 9.

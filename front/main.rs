@@ -37,6 +37,8 @@ mod numbers;
 mod options;
 mod parts;
 mod phrase;
+mod place;
+mod place_messages;
 mod printed;
 mod progress;
 mod question;

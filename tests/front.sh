@@ -1,6 +1,6 @@
 #!/usr/bin/env bash
-# The program rules (front/): its stored outputs and every message, its objects, files and terminals, the same bytes as the second program, any input, a
-# library with one thing changed, and every verdict against the proved program. tests/front/*.py say more.
+# The program rules (front/): its stored outputs and every message, its objects, the places where files are refused, files and terminals, the same
+# bytes as the second program, any input, a library with one thing changed, and every verdict against the proved program. tests/front/*.py say more.
 set -eu
 cd "$(dirname "$0")/.."
 . tests/library.bash
@@ -14,7 +14,7 @@ rustc --edition 2021 tests/second/main.rs -o "$work/second" &
 second=$!
 gcc -std=c99 -O1 -Wall -Wextra -Werror -Iinclude -c tests/front/changed.c -o "$work/changed.o"
 wrapped=()
-for call in read write_back step replay analyse; do
+for call in read read_bits write_back step replay analyse; do
     wrapped+=(-C "link-arg=-Wl,--wrap=rights_$call")
 done
 rustc --edition 2021 -L "$(dirname "$archive")" -C "link-arg=$work/changed.o" "${wrapped[@]}" front/main.rs -o "$work/changed"
@@ -29,6 +29,7 @@ check faults
 check around
 check messages
 check objects
+check places
 check explained
 check verdicts target/bin/rights_wide
 check same "$work/second"

@@ -1,6 +1,6 @@
 """What stands around the program. Files: `-o` writes whole or not at all, keeps permissions, follows a symbolic link, and leaves nothing over.
-Terminals: colour there and nowhere else, and no bytes. Outputs that cannot be written, and arguments that are not UTF-8: no panic. The error of an
-example that docs/TEXT.md shows. The exit status is 1 where anything is wrong."""
+Terminals: colour there and nowhere else, and no bytes. Outputs that cannot be written, and arguments that are not UTF-8: no panic. What documents
+show of the examples that are refused. The exit status is 1 where anything is wrong."""
 import os
 import shlex
 import shutil
@@ -19,6 +19,9 @@ PRINTING = [ASK, BAD, ["example"], ["help"], ["list", "examples/counter.rules"],
 STRANGE = [["\udcff"], ["--\udcff"], [""], ["\x1b[31m"], ["assemble", "wholesaler.rules.txt", "-o", "\udcff/x"], ["check", "long.rules.txt"]]
 STRANGE += [["ask", path, "anna", "agree"] for path in ("", "\udcff", "\x1b[31m", "examples")]
 STRANGE += [["ask", "wholesaler.rules.txt", word, "agree"] for word in ("", "\udcff", "\x1b[31m", "a" * 100000)]
+# the examples' errors and refusals, and how far one is read, as documents show them
+SHOWN = [("docs/TEXT.md", ["check", "examples/branch.rules.txt"], 4), ("docs/TEXT.md", ["check", "examples/branch.rules"], 2),
+         ("docs/CLERK.md", ["list", "examples/branch.rules"], 2), ("docs/TEXT.md", ["check", "-v", "examples/counter.rules"], 2)]
 wrong = []
 
 
@@ -56,10 +59,11 @@ def written(folder):
 
 
 def shown():
-    """the error of examples/branch.rules.txt stands in docs/TEXT.md, indented, without the line that counts errors"""
-    lines = harness.run(["check", "examples/branch.rules.txt"]).text().split("\n")[:-2]
-    block = "".join(f"    {line}\n" for line in lines)
-    expect(len(lines) == 4 and block in harness.content("docs/TEXT.md").decode(), f"docs/TEXT.md does not show this:\n{block}")
+    """what the documents show of the examples, indented, is what is printed, up to so many lines"""
+    for path, arguments, many in SHOWN:
+        lines = harness.run(arguments).text().split("\n")[:many]
+        block = "".join(f"    {line}\n" for line in lines)
+        expect(len(lines) == many and block in harness.content(path).decode(), f"{path} does not show this:\n{block}")
 
 
 def on_terminal(folder, arguments, **more):

@@ -55,10 +55,11 @@ def replayed(case, text, leaks, folder):
 
 
 def object_of(line):
-    """an object's keys and values in their order, with the number of steps in their place, and the steps' words"""
+    """an object's keys and values in their order, with the number of steps in their place, and the steps' words, if there are steps"""
     pairs = json.loads(line, object_pairs_hook=lambda pairs: pairs)
-    kept = [(key, len(value) if key == "steps" else value) for key, value in pairs]
-    return kept, [dict(step)["text"] for step in dict(pairs)["steps"]]
+    steps = [dict(step)["text"] for step in dict(pairs).get("steps") or []]
+    kept = [(key, len(value) if key == "steps" and value else value) for key, value in pairs]
+    return kept, [steps] if steps else []
 
 
 def compared(case, found, folder):
@@ -72,8 +73,8 @@ def compared(case, found, folder):
     if "␛" in text and "always" not in case.arguments:
         return "escape codes in a pipe"
     if case.expected and case.expected[0].startswith('{"command"'):
-        (expected, _), (kept, steps) = object_of(case.expected[0]), object_of(text)
-        wrong, leaks = None if expected == kept else f"the object is {text}", [steps]
+        (expected, _), (kept, leaks) = object_of(case.expected[0]), object_of(text)
+        wrong = None if expected == kept else f"the object is {text}"
     else:
         wrong, leaks = harness.differs(case.expected, lines)
     return wrong or (replayed(case, text, leaks, folder) if leaks else None)

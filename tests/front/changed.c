@@ -20,6 +20,17 @@ uint32_t __wrap_rights_read(bytes file, size_t len) {
     return __real_rights_read(file, len);
 }
 
+uint32_t __real_rights_read_bits(bytes file, size_t len, uint64_t *bits);
+uint32_t __wrap_rights_read_bits(bytes file, size_t len, uint64_t *bits) {
+    uint32_t number = __real_rights_read_bits(file, len, bits);
+    if (changed("read_accepts_all")) return 0;
+    if (changed("read_refuses_all")) return 3;
+    if (changed("bits_one_more")) *bits += 1;
+    if (changed("bits_of_all_bytes")) *bits = 8 * len;
+    if (changed("bits_not_written")) *bits = 0;
+    return number;
+}
+
 uint32_t __real_rights_write_back(bytes file, size_t len, uint8_t *out, size_t out_len, size_t *length);
 uint32_t __wrap_rights_write_back(bytes file, size_t len, uint8_t *out, size_t out_len, size_t *length) {
     uint32_t number = __real_rights_write_back(file, len, out, out_len, length);

@@ -21,9 +21,10 @@ session_1 uses agree on line_4712
 anna closes session_1
 anna agree on any item
 """
-COMMANDS = [["check", "IN"], ["check", "IN", "--json"], ["assemble", "IN"], ["assemble", "IN", "--json"], ["ask", "IN", "anyone", "agree"],
-            ["explain", "IN", "anyone", "agree"], ["list", "IN"], ["replay", EXAMPLE, "IN"], ["replay", EXAMPLE, "IN", "for", "anna", "agree"],
-            ["ask", EXAMPLE, "-"], ["list", "file.rules", "--names", "IN"], ["ask", "IN", "--question", "418000"], ["replay", "IN", "steps.txt"]]
+COMMANDS = [["check", "IN"], ["check", "IN", "--json"], ["check", "IN", "-v"], ["assemble", "IN"], ["assemble", "IN", "--json"],
+            ["ask", "IN", "anyone", "agree"], ["explain", "IN", "anyone", "agree"], ["list", "IN"], ["replay", EXAMPLE, "IN"],
+            ["replay", EXAMPLE, "IN", "for", "anna", "agree"], ["ask", EXAMPLE, "-"], ["list", "file.rules", "--names", "IN"],
+            ["ask", "IN", "--question", "418000"], ["replay", "IN", "steps.txt"]]
 
 
 def mutated(rng, text):

@@ -12,10 +12,10 @@ import harness
 import plain
 
 KEYS = {"ask": "command file question verdict pairs values steps", "explain": "command file question verdict pairs values steps parts together",
-        "check": "command file expectations warnings notes met not_met", "replay": "command file question steps refused fits",
+        "check": "command file bits expectations warnings notes met not_met", "replay": "command file question steps refused fits",
         "assemble": "command file warnings", "list": "command file text", "version": "command", "help": "command", "example": "command"}
 MORE_KEYS = {"version": ["version", "library"], "help": ["text"], "example": ["text"]}
-LATER_KEYS = ["warnings", "number", "words", "errors"]
+LATER_KEYS = ["warnings", "number", "words", "bits", "place", "errors"]
 INNER = {"file": "name bytes sha256", "question": "who name number permission item bytes"}
 COMMANDS = """
 ask wholesaler.rules.txt anna agree
@@ -63,6 +63,14 @@ explain examples/branch_mended.rules.txt otto post on invoice
 assemble examples/branch_mended.rules.txt -o mended.rules
 list mended.rules
 list examples/branch.rules
+check size.rules
+check list_number.rules
+check more.rules
+ask size.rules user0 permission0
+explain lists.rules user0 permission0
+replay filling.rules open.txt
+list cut_node.rules
+assemble user_value.rules -o nothing.rules
 replay wholesaler.rules.txt steps.txt
 replay wholesaler.rules.txt other.txt
 replay wholesaler.rules.txt other.txt for importer agree
@@ -104,6 +112,16 @@ def file_wrong(told, path, folder):
     return None if (told["bytes"], told["sha256"]) == right else f"the file is {right}; told is {told}"
 
 
+def reading_wrong(told):
+    """what is wrong with how far the rule file was read: all of it, or to the bit and the place that the message ends with"""
+    if told.get("bits") is None:
+        return "no bits beside a number" if told.get("number") else None
+    if told.get("place") is None:
+        return None if told["bits"] == 8 * told["file"]["bytes"] else f"{told['bits']} bits of {told['file']['bytes']} bytes, and no place"
+    words = f" at bit {told['bits']}, {told['place']}"
+    return None if told["errors"][0]["message"].endswith(words) else f"the message does not end with{words}"
+
+
 def rows_wrong(told):
     """what is wrong with the bytes of the question and with the rows, in an object about the example"""
     if told.get("question") and plain.question_bytes(told["question"]) != told["question"]["bytes"]:
@@ -142,6 +160,8 @@ def judged(arguments, folder):
         return f"its warnings are {found.err!r}"
     if told["command"] != arguments[0] or keys_wrong(told) or arguments[0] in ("version", "help", "example"):
         return keys_wrong(told)
+    if reading_wrong(told):
+        return reading_wrong(told)
     wrong = file_wrong(told["file"], arguments[1], folder) if told["file"]["sha256"] else None
     if not wrong and arguments[1].startswith("wholesaler"):
         wrong = rows_wrong(told)
@@ -156,7 +176,7 @@ def main():
     commands = COMMANDS.strip().split("\n")
     with tempfile.TemporaryDirectory() as folder:
         cases.prepared(folder)
-        for name in ("explain", "cases"):
+        for name in ("explain", "cases", "places"):
             harness.read(f"tests/front/outputs/{name}.txt", folder)
         harness.put(b"night_run uses view on line_4711\n", os.path.join(folder, "uses.txt"))
         wrong = [(command, judged(command.split(), folder)) for command in commands]

@@ -217,8 +217,8 @@ fn ends(checks: &mut Checks) {
     }
 }
 
-/// A file that was refused is cut everywhere. From the byte of the last counted bit on it has the same number and count;
-/// if it is accepted there, the 3 was for bytes that follow. Shorter ones give 1.
+/// A file that was refused is cut everywhere. From the byte of the last counted bit on it has the same number and
+/// count; if it is accepted there, the 3 was for bytes that follow. Shorter ones give 1.
 fn cuts_of_bent_files(checks: &mut Checks, count: u32) {
     let bounds = Bounds { attributes: 3, width: 5, users: 3, sessions: 2, items: 2, permissions: 2, nodes: 4 };
     let mut random = Random(0x5851_F42D_4C95_7F2D);

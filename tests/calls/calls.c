@@ -1,4 +1,4 @@
-/* The library's calls on the counter file and on two others, with answers worked out by hand from the paper (P1 to P5 among them): the numbers that
+/* The library's calls on the counter file and on a few others, with answers worked out by hand from the paper (P1 to P5 among them): the numbers that
    are given, and what every lent part holds afterwards. Lent parts hold no two numbers alike before. The exit status is 1 where anything differs. */
 #include <inttypes.h>
 #include <stdio.h>
@@ -108,11 +108,11 @@ int main(void) {
                               rights_row(RIGHTS_ACCESS, 0, 0, 0)};
     const uint64_t unchanged[3] = {leak[0], leak[1], leak[3]};
     uint64_t found[MOST];
-    uint8_t longer[36] = {0}, other[sizeof shut];
+    uint8_t longer[36] = {0}, absent[sizeof shut];
 
     memcpy(longer, counter, sizeof counter);
-    memcpy(other, shut, sizeof other);
-    other[5] = 0x10;
+    memcpy(absent, shut, sizeof absent);
+    absent[5] = 0x10;
 
     /* the verdicts, by number: a host is built with these */
     is("the verdict none", 0, RIGHTS_NONE);
@@ -190,7 +190,7 @@ int main(void) {
     read_bits(sizes, 8, 18, 63); /* after the second attribute's list number */
     read_bits(sizes, 7, 1, 56);
     read_bits(shut, sizeof shut, 0, 184);
-    read_bits(other, sizeof other, 7, 44); /* user 1 of 1: 40 of head and 4 */
+    read_bits(absent, sizeof absent, 7, 44); /* user 1 of 1: 40 of head and 4 */
 
     write_back(33, 0, 33);
     write_back(64, 0, 33);

@@ -4,6 +4,7 @@ mod c {
     #[link(name = "rights_c", kind = "static")]
     extern "C" {
         pub fn rights_read(file: *const u8, len: usize) -> u32;
+        pub fn rights_read_bits(file: *const u8, len: usize, bits: *mut u64) -> u32;
         pub fn rights_write_back(file: *const u8, len: usize, out: *mut u8, out_len: usize, length: *mut usize) -> u32;
         pub fn rights_start(file: *const u8, len: usize, sessions: *mut u64, n: usize, items: *mut u64, m: usize, next_session: *mut u64,
                             next_item: *mut u64) -> u32;
@@ -50,6 +51,13 @@ pub fn parts(row: u64) -> [u64; 4] {
 
 pub fn read(file: &[u8]) -> Result<(), u32> {
     told(unsafe { c::rights_read(file.as_ptr(), file.len()) })
+}
+
+/// The same, and how many bits reading took, with a number too.
+pub fn read_bits(file: &[u8]) -> (Result<(), u32>, u64) {
+    let mut bits = 0;
+    let number = unsafe { c::rights_read_bits(file.as_ptr(), file.len(), &mut bits) };
+    (told(number), bits)
 }
 
 /// The rules of a file as bytes again.

@@ -45,8 +45,11 @@ int main(int argc, char **argv) {
     fclose(in);
 
     size_t written;
+    uint64_t bits;
     uint32_t number = rights_read(file, length);
     printf("reading: %" PRIu32 "\n", number);
+    number = rights_read_bits(file, length, &bits);
+    printf("counting the bits: %" PRIu32 ", %" PRIu64 " bits\n", number, bits);
     number = rights_write_back(file, length, again, sizeof again, &written);
     printf("writing back: %" PRIu32 ", %s bytes\n", number, written == length && memcmp(file, again, length) == 0 ? "the same" : "other");
 

@@ -42,6 +42,8 @@ fn main() -> std::io::Result<()> {
     let (user_2, user_1, user_0) = ([0x42, 0x80, 0x00], [0x41, 0x80, 0x00], [0x40, 0x80, 0x00]);
 
     println!("reading: {}", number(rights::read(&file)));
+    let (came, bits) = rights::read_bits(&file);
+    println!("counting the bits: {}, {bits} bits", number(came));
     match rights::write_back(&file) {
         Ok(again) => println!("writing back: 0, {} bytes", if again == file { "the same" } else { "other" }),
         Err(n) => println!("writing back: {n}"),

@@ -1,4 +1,4 @@
-/* The library's calls on the counter file and on two others, with answers worked out by hand from the paper (P1 to P5 among them): the numbers that
+/* The library's calls on the counter file and on a few others, with answers worked out by hand from the paper (P1 to P5 among them): the numbers that
    are given, and what every lent part holds afterwards. Lent parts hold no two numbers alike before. The exit status is 1 where anything differs. */
 #include <inttypes.h>
 #include <stdio.h>
@@ -11,6 +11,10 @@ static const uint8_t counter[33] = {0x11, 0x11, 0x00, 0x00, 0x80, 0x84, 0x08, 0x
                                     0x05, 0x60, 0x28, 0x00, 0x62, 0x80, 0x80, 0x0E, 0x28, 0x08, 0x15, 0x82, 0x84, 0xC0, 0x00, 0x40};
 static const uint8_t shut[23] = {0x00, 0x00, 0x82, 0x00, 0x80, 0x00, 0x10, 0x00, 0x00, 0x01, 0x10, 0x00,
                                  0x00, 0x11, 0x00, 0x00, 0x01, 0x10, 0x00, 0x00, 0x11, 0x00, 0x00};
+/* two session sets of size 5; a user's code 3 of an atomic list of 3, with 3 attributes in all; atomic lists of 3 and 4 values in list 1 */
+static const uint8_t wide[8] = {0x02, 0x00, 0x80, 0x00, 0x80, 0x94, 0x09, 0x40};
+static const uint8_t code[10] = {0x21, 0x00, 0x80, 0x00, 0x80, 0x0C, 0x09, 0x80, 0x08, 0x0C};
+static const uint8_t sizes[8] = {0x20, 0x00, 0x80, 0x00, 0x80, 0x0C, 0x21, 0x02};
 static const uint8_t user_1[3] = {0x41, 0x80, 0x00}, user_0[3] = {0x40, 0x80, 0x00};
 
 enum { SESSIONS, ITEMS, ROWS, PARTS, MOST = 16 };
@@ -71,6 +75,23 @@ static void steps(const uint8_t *file, size_t len, const uint64_t *rows, size_t 
     kept(ITEMS, 1);
 }
 
+/* reading, and how many bits it takes; a count that held another number */
+static void read_bits(const uint8_t *file, size_t len, uint32_t number, uint64_t expected) {
+    uint64_t bits = UINT64_MAX;
+    calls += 2;
+    is("number", number, rights_read(file, len));
+    is("number beside the bits", number, rights_read_bits(file, len, &bits));
+    is("bits", expected, bits);
+}
+
+/* the same of the counter file with one bit changed */
+static void changed_bit(int bit, uint32_t number, uint64_t expected) {
+    uint8_t file[sizeof counter];
+    memcpy(file, counter, sizeof file);
+    file[bit / 8] ^= (uint8_t)(128 >> bit % 8);
+    read_bits(file, sizeof file, number, expected);
+}
+
 static void write_back(size_t room, uint32_t number, size_t expected) {
     static uint8_t out[64];
     size_t length = 99;
@@ -87,6 +108,11 @@ int main(void) {
                               rights_row(RIGHTS_ACCESS, 0, 0, 0)};
     const uint64_t unchanged[3] = {leak[0], leak[1], leak[3]};
     uint64_t found[MOST];
+    uint8_t longer[36] = {0}, absent[sizeof shut];
+
+    memcpy(longer, counter, sizeof counter);
+    memcpy(absent, shut, sizeof absent);
+    absent[5] = 0x10;
 
     /* the verdicts, by number: a host is built with these */
     is("the verdict none", 0, RIGHTS_NONE);
@@ -139,6 +165,32 @@ int main(void) {
     steps(counter, 32, leak, 4, 1, 0);
     steps(counter, 32, leak, 0, 1, 0);
     is("the next session number", 1, next_session);
+
+    /* how many bits reading takes: with rules and with 1 all of them, else those up to the end of the field that was judged. The counter file has 40
+       of head, 36 of attributes, 2 of users, then open session's count of 8 and its node of 20; 258 in all, and 6 of filling */
+    for (size_t len = 0; len < 33; len++) read_bits(counter, len, 1, 8 * len);
+    read_bits(counter, 33, 0, 264);
+    changed_bit(0, 2, 4); /* 9 user attributes */
+    changed_bit(12, 2, 17); /* 18 users */
+    changed_bit(29, 2, 33); /* 9 permissions */
+    for (int bit = 33; bit < 40; bit++) changed_bit(bit, 3, 40); /* the head's spare, one field */
+    changed_bit(41, 4, 46); /* a set of 17 */
+    changed_bit(46, 19, 106); /* list 16, which open session compares with list 0 */
+    changed_bit(51, 3, 52); /* an attribute's last bit */
+    changed_bit(74, 0, 264); /* list 1 of items alone */
+    changed_bit(77, 0, 264); /* user 1 has {0} too */
+    changed_bit(78, 8, 86); /* 129 nodes */
+    changed_bit(87, 8, 106); /* operator 13 */
+    for (int bit = 258; bit < 264; bit++) changed_bit(bit, 3, 264); /* the filling bits, one field */
+    for (size_t len = 34; len <= 36; len++) read_bits(longer, len, 3, 264); /* bytes that follow are not taken */
+    read_bits(wide, 8, 5, 64); /* after the class's two attributes */
+    read_bits(wide, 7, 1, 56);
+    read_bits(code, 10, 6, 78); /* after the first attribute's value, 2 bits */
+    read_bits(code, 9, 1, 72);
+    read_bits(sizes, 8, 18, 63); /* after the second attribute's list number */
+    read_bits(sizes, 7, 1, 56);
+    read_bits(shut, sizeof shut, 0, 184);
+    read_bits(absent, sizeof absent, 7, 44); /* user 1 of 1: 40 of head and 4 */
 
     write_back(33, 0, 33);
     write_back(64, 0, 33);

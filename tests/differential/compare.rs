@@ -1,19 +1,22 @@
 //! Each input through both programs. A difference is a line of text.
 
+use std::collections::BTreeMap;
+
 use crate::library::{self, Live};
 use crate::random::Random;
 use crate::second::analyse::{analyse, Verdict};
 use crate::second::monitor::{self, parts, Next};
-use crate::second::read::read;
+use crate::second::read::{read, read_bits};
 use crate::second::replay::replay;
 use crate::second::rules::{RawRules, Rules};
 use crate::second::write::file_of;
 use crate::{generate, spoil, steps};
 
-/// How often each number, verdict and replayed leak was seen.
+/// How often each number, known fault of a file, verdict and replayed leak was seen.
 #[derive(Default)]
 pub struct Tally {
     pub numbers: [u64; 20],
+    pub ways: BTreeMap<(u32, &'static str), u64>,
     pub safe: u64,
     pub leak: u64,
     pub replayed: u64,
@@ -34,12 +37,34 @@ fn same<T: PartialEq + std::fmt::Debug>(what: &str, file: &[u8], ours: T, second
     Err(format!("{what}: library {ours:?}, second program {second:?}, file {}", hex(file)))
 }
 
+/// Reading, and how many bits it takes. With a number other than 1, a file that ends with the byte of the last of these bits gives the same, unless
+/// it was refused for bytes that follow, and is now accepted; one byte less gives 1.
+fn bits(bytes: &[u8]) -> Outcome {
+    let (rules, taken) = read_bits(bytes);
+    let number = rules.err().unwrap_or(0);
+    same("read", bytes, library::read(bytes), number)?;
+    same("read with its bits", bytes, library::read_bits(bytes), (number, taken))?;
+    if number < 2 {
+        return same("all bits", bytes, taken, 8 * bytes.len() as u64);
+    }
+    let end = (taken as usize + 7) / 8;
+    let cut = &bytes[..end];
+    let accepted = number == 3 && end < bytes.len() && read(cut).is_ok();
+    same("read, cut after the last bit", bytes, library::read_bits(cut), (if accepted { 0 } else { number }, taken))?;
+    same("read, cut before the last bit", bytes, library::read_bits(&bytes[..end - 1]), (1, 8 * (end as u64 - 1)))
+}
+
+/// A file with a known fault.
+fn fault(tally: &mut Tally, fault: &spoil::Fault) -> Outcome {
+    *tally.ways.entry((fault.number, fault.way)).or_default() += 1;
+    same(fault.way, &fault.bytes, library::read_bits(&fault.bytes), (fault.number, fault.bits))
+}
+
 /// Reading, and writing back into slices of several lengths.
 fn file(tally: &mut Tally, random: &Random, bytes: &[u8]) -> Outcome {
     let rules = read(bytes);
-    let number = library::read(bytes);
-    tally.numbers[number as usize] += 1;
-    same("read", bytes, number, rules.as_ref().err().copied().unwrap_or(0))?;
+    tally.numbers[library::read(bytes) as usize] += 1;
+    bits(bytes)?;
     let written = rules.and_then(|rules| file_of(&RawRules::of(&rules)));
     let length = match random.below(3) {
         0 => random.below(bytes.len() as u64 + 1) as usize,
@@ -196,8 +221,13 @@ pub fn input(tally: &mut Tally, random: &Random) -> Outcome {
     let good = spoil::file_of(&raw);
     match random.below(8) {
         0 => {
-            let (bytes, number) = spoil::file(random, &raw);
-            same("a known fault", &bytes, library::read(&bytes), number)?;
+            let bytes = match spoil::file(random, &raw) {
+                None => good,
+                Some(known) => {
+                    fault(tally, &known)?;
+                    known.bytes
+                }
+            };
             file(tally, random, &bytes)?;
             question(tally, random, &raw, &bytes)
         }
@@ -210,7 +240,13 @@ pub fn input(tally: &mut Tally, random: &Random) -> Outcome {
             file(tally, random, &bytes)
         }
         2 => file(tally, random, &good),
-        3 | 4 => live(tally, random, &raw, &good),
-        _ => question(tally, random, &raw, &good),
+        3 | 4 => {
+            bits(&good)?;
+            live(tally, random, &raw, &good)
+        }
+        _ => {
+            bits(&good)?;
+            question(tally, random, &raw, &good)
+        }
     }
 }

@@ -2,6 +2,7 @@
 
 extern "C" {
     fn rights_read(file: *const u8, len: usize) -> u32;
+    fn rights_read_bits(file: *const u8, len: usize, bits: *mut u64) -> u32;
     fn rights_write_back(file: *const u8, len: usize, out: *mut u8, out_len: usize, length: *mut usize) -> u32;
     fn rights_start(
         file: *const u8, len: usize, sessions: *mut u64, n: usize, items: *mut u64, m: usize,
@@ -35,6 +36,13 @@ pub struct Live {
 
 pub fn read(file: &[u8]) -> u32 {
     unsafe { rights_read(file.as_ptr(), file.len()) }
+}
+
+/// The number, and how many bits reading took.
+pub fn read_bits(file: &[u8]) -> (u32, u64) {
+    let mut bits = u64::MAX;
+    let number = unsafe { rights_read_bits(file.as_ptr(), file.len(), &mut bits) };
+    (number, bits)
 }
 
 /// The number and the length.

@@ -1,5 +1,6 @@
 //! Faults of list numbers: 18, a size that differs from that of an earlier attribute of the list, and 19, compared lists that differ.
 
+use crate::fields::Field;
 use crate::generate::{operands, Operand};
 use crate::random::Random;
 use crate::second::rules::RawRules;
@@ -54,6 +55,16 @@ pub fn spoil_size(random: &Random, raw: &mut RawRules) -> usize {
         raw.classes[class].sizes[place] = smaller;
     }
     later
+}
+
+/// The first attribute in reading order whose size differs from that of an earlier one of its list.
+pub fn first_18(raw: &RawRules) -> (usize, usize) {
+    let places = places(raw);
+    let list = |(class, k): (usize, usize)| raw.classes[class].lists[k];
+    let size = |(class, k): (usize, usize)| raw.classes[class].sizes[k];
+    let differ = |one, other| list(one) != 0 && list(one) == list(other) && size(one) != size(other);
+    let later = (0..places.len()).find(|later| places[..*later].iter().any(|earlier| differ(*earlier, places[*later])));
+    places[later.expect("two attributes of one list and different sizes")]
 }
 
 /// The attributes that a node compares, if it compares two different ones.
@@ -112,15 +123,26 @@ fn spoil_node(random: &Random, raw: &mut RawRules, f: usize) -> bool {
     true
 }
 
-/// Makes some formula compare two attributes of different lists; false where nothing came of it.
-pub fn spoil_comparison(random: &Random, raw: &mut RawRules) -> bool {
+/// The first node in reading order that compares attributes of different lists.
+fn first_19(raw: &RawRules) -> Field {
+    let of_formula = |f: usize| {
+        let operands = operands(raw, f);
+        let differ = |node: &u32| compared(&operands, *node).map_or(false, |(a, b)| a.attribute.list != b.attribute.list);
+        let place = raw.nodes[f][..raw.lengths[f] as usize].iter().position(differ);
+        place.map(|place| Field::Node(f, place))
+    };
+    (0..4 + raw.permissions as usize).find_map(of_formula).expect("a node that compares different lists")
+}
+
+/// Makes some formula compare two attributes of different lists; says where, or nothing where nothing came of it.
+pub fn spoil_comparison(random: &Random, raw: &mut RawRules) -> Option<Field> {
     for _ in 0..4 {
         let f = random.below(4 + u64::from(raw.permissions)) as usize;
         if random.once_in(2) && spoil_compared(random, raw, f) || spoil_node(random, raw, f) {
-            return true;
+            return Some(first_19(raw));
         }
     }
-    false
+    None
 }
 
 /// A node that gets 8 whatever the lists of its two attributes, which mostly differ; nothing if the formula looks at none.

@@ -5,6 +5,7 @@
 mod second;
 
 mod compare;
+mod fields;
 mod generate;
 mod library;
 mod lists;
@@ -16,6 +17,9 @@ mod writing;
 use compare::Tally;
 use random::Random;
 
+/// From so many inputs on every way in which a file can be refused must have come up.
+const ENOUGH: u64 = 20_000;
+
 /// All inputs; the number of the one that differs, and how.
 fn run(program: &str, inputs: u64, seed: u64, tally: &mut Tally) -> Result<(), String> {
     for k in 0..inputs {
@@ -26,7 +30,10 @@ fn run(program: &str, inputs: u64, seed: u64, tally: &mut Tally) -> Result<(), S
     for k in 0..(inputs + 10 * batch - 1) / (10 * batch) {
         writing::many(tally, &Random::new(seed ^ (k << 32)), program, batch.min(inputs))?;
     }
-    Ok(())
+    match spoil::WAYS.iter().find(|way| !tally.ways.contains_key(*way)) {
+        Some((number, way)) if inputs >= ENOUGH => Err(format!("no file was refused with {number} for {way}")),
+        _ => Ok(()),
+    }
 }
 
 fn main() {
@@ -44,6 +51,10 @@ fn main() {
     println!("{inputs} inputs; answers by number:");
     for (number, count) in tally.numbers.iter().enumerate() {
         println!("{number:4} {count:10}");
+    }
+    println!("files with a known fault:");
+    for ((number, way), count) in &tally.ways {
+        println!("{number:4} {count:10}  {way}");
     }
     println!("safe {}, leak {}, replayed {}, steps {}", tally.safe, tally.leak, tally.replayed, tally.steps);
     match result {

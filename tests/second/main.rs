@@ -4,12 +4,14 @@
 //!     second rights     question and file in, the verdict out
 //!     second assemble   readable rules in, the file out
 //!     second list       a file in, readable rules out
+//!     second records    the records of tests/vectors/make.py in, a line for each out
 //!     second selftest   nothing in, the outcome of the tests out
 
 #![deny(warnings)]
 
 #[path = "mod.rs"]
 mod second;
+mod records;
 mod selftest;
 
 use second::analyse::{analyse, Verdict};
@@ -58,8 +60,9 @@ fn main() -> ExitCode {
         "rights" => Ok(rights(&input()).into_bytes()),
         "assemble" => assembled(&input()),
         "list" => listed(&input()),
+        "records" => Ok(records::lines(&input()).into_bytes()),
         "selftest" => selftest::selftest(),
-        _ => Err("use: second rights | assemble | list | selftest".to_string()),
+        _ => Err("use: second rights | assemble | list | records | selftest".to_string()),
     };
     match outcome {
         Ok(output) => {

@@ -1,20 +1,23 @@
-//! Reading a rule file, field by field.
+//! Reading a rule file, field by field, with a count of the bits that this takes.
 
 use super::formula::judge_node;
 use super::rules::{meanings, size_agrees, width, Attribute, Node, Owned, Rules, ALLOW, ITEM, SESSION, USER};
 use super::value::decode_one;
 
-/// A file and the position of the next bit.
+/// A file and the position of the next bit. No bit is passed over and none is taken twice, so the position is also how
+/// many bits were taken.
 struct Reader<'a> {
     bytes: &'a [u8],
     position: usize,
 }
 
 impl Reader<'_> {
-    /// The next field, its first bit the most significant one; 1 if it runs past the end.
+    /// The next field, its first bit the most significant one. If it runs past the end, what is left is taken, and the
+    /// number is 1.
     fn field(&mut self, width: u32) -> Result<u32, u32> {
         let end = self.position + width as usize;
         if width > 0 && end > self.bytes.len() * 8 {
+            self.position = self.bytes.len() * 8;
             return Err(1);
         }
         let mut number = 0;
@@ -111,7 +114,7 @@ impl Reader<'_> {
         Ok(nodes)
     }
 
-    /// The filling bits of the last byte; nothing may follow them.
+    /// The filling bits of the last byte, which are one field; nothing may follow them. What follows is not taken.
     fn end(&mut self) -> Result<(), u32> {
         let filling = (8 - self.position % 8) % 8;
         self.spare(filling as u32)?;
@@ -122,9 +125,8 @@ impl Reader<'_> {
     }
 }
 
-/// The rules of a file, or the number of its first fault.
-pub fn read(bytes: &[u8]) -> Result<Rules, u32> {
-    let mut reader = Reader { bytes, position: 0 };
+/// All fields, in their order.
+fn rules(reader: &mut Reader) -> Result<Rules, u32> {
     let mut attribute_counts = [0; 3];
     for count in &mut attribute_counts {
         *count = reader.count(4, 0, 8)?;
@@ -158,4 +160,16 @@ pub fn read(bytes: &[u8]) -> Result<Rules, u32> {
     reader.end()?;
     let meanings = [meanings(&attributes[USER]), meanings(&attributes[SESSION]), meanings(&attributes[ITEM])];
     Ok(Rules { attributes, users, sessions, items, permissions, formulas, meanings })
+}
+
+/// The rules of a file or the number of its first fault, and how many bits were taken until that was known.
+pub fn read_bits(bytes: &[u8]) -> (Result<Rules, u32>, u64) {
+    let mut reader = Reader { bytes, position: 0 };
+    let rules = rules(&mut reader);
+    (rules, reader.position as u64)
+}
+
+/// The rules of a file, or the number of its first fault.
+pub fn read(bytes: &[u8]) -> Result<Rules, u32> {
+    read_bits(bytes).0
 }

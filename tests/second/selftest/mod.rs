@@ -2,6 +2,7 @@
 //! the source documents, or is worked out by hand from these; never from what a program printed.
 
 mod analysing;
+mod counting;
 mod files;
 mod list_texts;
 mod lists;
@@ -64,8 +65,9 @@ pub fn file(text: &str) -> Vec<u8> {
 pub fn selftest() -> Result<Vec<u8>, String> {
     let mut checks = Checks { made: 0, failed: Vec::new() };
     let mut report = String::new();
-    let parts: [(&str, fn(&mut Checks)); 11] = [
+    let parts: [(&str, fn(&mut Checks)); 12] = [
         ("reading files", files::all),
+        ("counting bits", counting::all),
         ("writing files", writing::all),
         ("lists in files", lists::all),
         ("steps on cells", stepping::all),

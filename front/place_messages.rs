@@ -1,4 +1,8 @@
-//! How far a rule file was read, and where it is refused: each of its fields in words. All things are numbered from 0.
+//! How far a rule file was read, and where it is refused: each of its fields in words. Things are counted from 1; the name that a listing gives them, which
+//! counts from 0, stands in brackets.
+
+use crate::model::Class;
+use crate::phrase::unnamed;
 
 pub fn all_read(bits: u64, bytes: usize) -> String {
     format!("{bits} bits read ({})", counted(bytes))
@@ -55,39 +59,35 @@ pub fn head_spare() -> &'static str {
 }
 
 pub fn kind(class: &str, number: usize) -> String {
-    format!("{class} attribute {number}, its kind")
+    format!("{class} {}, its kind", attribute(number))
 }
 
 pub fn size(class: &str, number: usize) -> String {
-    format!("{class} attribute {number}, its size")
+    format!("{class} {}, its size", attribute(number))
 }
 
 pub fn list_number(class: &str, number: usize) -> String {
-    format!("{class} attribute {number}, its list number")
+    format!("{class} {}, its list number", attribute(number))
 }
 
 pub fn last_bit(class: &str, number: usize) -> String {
-    format!("{class} attribute {number}, its last bit")
+    format!("{class} {}, its last bit", attribute(number))
 }
 
 pub fn together(class: &str) -> String {
     format!("the {class} attributes together")
 }
 
-pub fn user_value(number: usize, attribute: usize) -> String {
-    format!("user {number}, attribute {attribute}")
+pub fn user_value(number: usize, of: usize) -> String {
+    format!("user {} (user{number}), {}", number + 1, attribute(of))
 }
 
 pub fn session_user(number: usize) -> String {
-    format!("starting session {number}, its user")
+    format!("{}, its user", starting(Class::Session, number))
 }
 
-pub fn session_value(number: usize, attribute: usize) -> String {
-    format!("starting session {number}, attribute {attribute}")
-}
-
-pub fn item_value(number: usize, attribute: usize) -> String {
-    format!("starting item {number}, attribute {attribute}")
+pub fn starting_value(class: Class, number: usize, of: usize) -> String {
+    format!("{}, {}", starting(class, number), attribute(of))
 }
 
 pub fn node_count(formula: &str) -> String {
@@ -95,9 +95,19 @@ pub fn node_count(formula: &str) -> String {
 }
 
 pub fn node(formula: &str, number: usize) -> String {
-    format!("{formula}, node {number}")
+    format!("{formula}, node {}", number + 1)
 }
 
 pub fn filling() -> &'static str {
     "the filling bits"
+}
+
+// parts of fields
+
+fn attribute(number: usize) -> String {
+    format!("attribute {} (a{number})", number + 1)
+}
+
+fn starting(class: Class, number: usize) -> String {
+    format!("starting {} {} ({})", class.word(), number + 1, unnamed(class, number))
 }

@@ -42,7 +42,7 @@ class Reader:
         """(whether it is a set, size, list number, width) of each attribute of a class"""
         found = []
         for number in range(count):
-            what = f"{name} attribute {number}, its"
+            what = f"{name} attribute {number + 1} (a{number}), its"
             is_set, size = self.take(1, f"{what} kind"), self.take(5, f"{what} size")
             self.need(1 <= size <= (8 if is_set else 16), 4)
             its_list = self.take(5, f"{what} list number")
@@ -54,14 +54,14 @@ class Reader:
 
     def holder(self, what, attributes):
         for number, (is_set, size, _, width) in enumerate(attributes):
-            value = self.take(width, f"{what}, attribute {number}")
+            value = self.take(width, f"{what}, attribute {number + 1} (a{number})")
             self.need(is_set or value < size, 6)
 
     def formula(self, what, holders, classes):
         count = self.take(8, f"{what}, its node count")
         self.need(1 <= count <= 64, 8)
         for at in range(count):
-            node = self.take(20, f"{what}, node {at}")
+            node = self.take(20, f"{what}, node {at + 1}")
             number = fault(node >> 16, node >> 8 & 255, node & 255, at, holders, classes)
             self.need(not number, number)
 
@@ -74,12 +74,13 @@ class Reader:
         self.need(self.take(7, "the head's spare bits") == 0, 3)
         classes = [self.attributes(name, count, sizes) for name, count in zip(("user", "session", "item"), counts)]
         for number in range(users):
-            self.holder(f"user {number}", classes[0])
+            self.holder(f"user {number + 1} (user{number})", classes[0])
         for number in range(sessions):
-            self.need(self.take(4, f"starting session {number}, its user") < users, 7)
-            self.holder(f"starting session {number}", classes[1])
+            what = f"starting session {number + 1} (session_{number})"
+            self.need(self.take(4, f"{what}, its user") < users, 7)
+            self.holder(what, classes[1])
         for number in range(items):
-            self.holder(f"starting item {number}", classes[2])
+            self.holder(f"starting item {number + 1} (item_{number})", classes[2])
         names = ["open session", "change session", "make item", "change item"] + [f"allow permission{number}" for number in range(permissions)]
         for number, name in enumerate(names):
             self.formula(name, generate.ALLOWED[min(number, 4)], classes)

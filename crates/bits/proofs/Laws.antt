@@ -193,14 +193,10 @@ field-cut s pos w h =
     ∙ ap (λ (z : ℕ). numberOf (bitAt s) z w) (omega arith)
 
 module _ (s : List ℕ) (pos w : ℕ) where
-  pub field-value : w ≤ 24 → pos + w ≤ 8 * length s → fieldAt s pos w ≡ Value (numberAt s pos w)
+  pub field-value : pos + w ≤ 8 * length s → fieldAt s pos w ≡ Value (numberAt s pos w)
   unfolding fieldAt
-  field-value n h = simp (le-leb w 24 n, le-leb _ _ h)
+  field-value h = simp (le-leb _ _ h)
 
-  pub field-wide : 24 < w → fieldAt s pos w ≡ Absent
+  pub field-short : 8 * length s < pos + w → fieldAt s pos w ≡ Absent
   unfolding fieldAt
-  field-wide h = simp (lt-leb w 24 h)
-
-  pub field-short : w ≤ 24 → 8 * length s < pos + w → fieldAt s pos w ≡ Absent
-  unfolding fieldAt
-  field-short n h = simp (le-leb w 24 n, lt-leb _ _ h)
+  field-short h = simp (lt-leb _ _ h)

@@ -1,7 +1,7 @@
 -- Bits of bytes and numbers made of them, most significant first [01:The rule file 1].
 -- The one meaning of "bit i of the bytes" and of "the number at a place of w bits".
 -- Assumes nothing.
-use mathlib.Core.Bool.{_&&_, cond}
+use mathlib.Core.Bool.{cond}
 use mathlib.Core.List.{List}
 use Prim.Native.Nat.{ℕ, zero, suc, _+_, _-_, _*_, _/_, _%_, _^_}
 use lib.ListN.{length, getD}
@@ -22,6 +22,6 @@ numberOf b pos (suc w) = numberOf b pos w * 2 + b (pos + w)
 unfoldable pub numberAt : List ℕ → ℕ → ℕ → ℕ
 numberAt s pos w = numberOf (bitAt s) pos w
 
--- that number, where w is at most 24 and the place does not run past the end
+-- that number, where the place does not run past the end
 unfoldable pub fieldAt : List ℕ → ℕ → ℕ → Field
-fieldAt s pos w = cond (leb w 24 && leb (pos + w) (8 * length s)) (Value (numberAt s pos w)) Absent
+fieldAt s pos w = cond (leb (pos + w) (8 * length s)) (Value (numberAt s pos w)) Absent

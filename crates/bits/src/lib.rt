@@ -1,14 +1,14 @@
 // Fields of bits in bytes, and sets as masks: the leaves that every other crate reads and writes by.
 ghost use mathlib.Core.Path.{_≡_};
 ghost use mathlib.Core.Bool.{cond};
-ghost use Prim.Native.Nat.{_+_, _*_, _/_, _%_, _^_, _<_};
+ghost use Prim.Native.Nat.{_+_, _*_, _/_, _%_, _^_, _≤_, _<_};
 ghost use lib.Dec.{eqb};
 ghost use lib.ListN.{length, getD};
 ghost use Rattle.bits.specs.Field.{numberAt, fieldAt};
 ghost use Rattle.bits.specs.Packed.{put as putOf};
 ghost use Rattle.bits.specs.Set.{sizeOf, inSet, subsetOf, properOf};
 
-// What stands at a place of some bits: their number; or nothing, where the place is wider than 24 bits or runs past the end.
+// What stands at a place of some bits: their number; or nothing, where the place runs past the end.
 pub enum Field {
     Value(u64),
     Absent,
@@ -41,19 +41,15 @@ fn window(s: &[u8], k: usize) -> u64
     a + b + c
 }
 
-// The field of w bits that begins at bit pos.
+// The field of w bits that begins at bit pos: with at most 24 it lies within the four bytes from the one it begins in.
 pub fn field_at(s: &[u8], pos: usize, w: usize) -> Field
+    requires { ⌜ (w ≤ 24) × (pos < 2 ^ 62) ⌝ }
     ensures { λ r. ⌜ r ≡ fieldAt (now (s .entry)) pos w ⌝ }
 {
-    if 24 < w {
+    if s.len() < (pos + w + 7) / 8 {
         return Field::Absent;
     }
-    let k = pos / 8;
-    let r = pos % 8;
-    if s.len() < k + (r + w + 7) / 8 {
-        return Field::Absent;
-    }
-    let x = window(s, k) >> (32 - r - w);
+    let x = window(s, pos / 8) >> (32 - pos % 8 - w);
     let ones = (1u64 << w) - 1;
     Field::Value(x & ones)
 }

@@ -29,19 +29,19 @@ module _ (s : List ℕ) (pos w : ℕ) (r : Found) (e : r ≡ foundAt s pos w) wh
   is-on : (x : ℕ) → fieldAt s pos w ≡ Value x → r .at ≡ pos + w
   is-on x g = ap (λ (y : Found). y .at) e ∙ found-on s pos w x g
 
-module _ (s : List ℕ) (pos w : ℕ) (n : w ≤ 24) where
+module _ (s : List ℕ) (pos w : ℕ) where
   there : (x : ℕ) → fieldAt s pos w ≡ Value x → (x ≡ numberAt s pos w) × (taken s pos w ≡ ok x (pos + w)) × (pos + w ≤ 8 * length s)
   there x e = go (decLe (pos + w) (8 * length s))
     where
       go : Dec (pos + w ≤ 8 * length s) → (x ≡ numberAt s pos w) × (taken s pos w ≡ ok x (pos + w)) × (pos + w ≤ 8 * length s)
-      go (yes h) = let f = field-value s pos w n h in let v : numberAt s pos w ≡ x = cc in (sym v, taken-value s pos w h ∙ ap (λ (y : ℕ). ok y (pos + w)) v, h)
-      go (no h) = let f = field-short s pos w n (omega arith) in let z : _≡_ {A = ℕ} 0 1 = cc in absurd (omega arith)
+      go (yes h) = let f = field-value s pos w h in let v : numberAt s pos w ≡ x = cc in (sym v, taken-value s pos w h ∙ ap (λ (y : ℕ). ok y (pos + w)) v, h)
+      go (no h) = let f = field-short s pos w (omega arith) in let z : _≡_ {A = ℕ} 0 1 = cc in absurd (omega arith)
 
   absent : fieldAt s pos w ≡ Absent → (8 * length s < pos + w) × (taken s pos w ≡ bad 1 (8 * length s))
   absent e = go (decLe (pos + w) (8 * length s))
     where
       go : Dec (pos + w ≤ 8 * length s) → (8 * length s < pos + w) × (taken s pos w ≡ bad 1 (8 * length s))
-      go (yes h) = let f = field-value s pos w n h in let z : _≡_ {A = ℕ} 0 1 = cc in absurd (omega arith)
+      go (yes h) = let f = field-value s pos w h in let z : _≡_ {A = ℕ} 0 1 = cc in absurd (omega arith)
       go (no h) = (omega arith, taken-short s pos w (omega arith))
 
 returns : tie.Need-returns
@@ -69,7 +69,7 @@ mul-end : tie.Need-mul-end
 mul-end c =
     let k = c .before .before in
     let a = k .before .before .before .before .args in
-    omega (arith, absent (a .s .now) (a .at .pos) (a .w) (omega arith) (is-field _ _ _ _ (k .read-at .ensures) (c .enum-told .given .1)) .0)
+    omega (arith, absent (a .s .now) (a .at .pos) (a .w) (is-field _ _ _ _ (k .read-at .ensures) (c .enum-told .given .1)) .0)
 
 sub-t12 : tie.Need-sub-t12
 sub-t12 c = let k = c .before .before .before .before .before .before .before in omega (arith, k .pre .2 .inside)
@@ -79,7 +79,7 @@ add-t13 c =
     let k = c .before .before .before .before in
     let a = k .before .before .before .before .args in
     let o = k .before .before .before .before .pre .2 in
-    omega (arith, o .count, absent (a .s .now) (a .at .pos) (a .w) (omega arith) (is-field _ _ _ _ (k .read-at .ensures) (c .before .before .enum-told .given .1)) .0)
+    omega (arith, o .count, absent (a .s .now) (a .at .pos) (a .w) (is-field _ _ _ _ (k .read-at .ensures) (c .before .before .enum-told .given .1)) .0)
 
 returns-2 : tie.Need-returns-2
 returns-2 c =
@@ -88,7 +88,7 @@ returns-2 c =
     let o = k .before .before .before .before .pre .2 in
     let x = c .before .before .f .given .0 .0 in
     let f = is-field _ _ _ _ (k .read-at .ensures) (c .before .before .f .given .1) in
-    let e = there (a .s .now) (a .at .pos) (a .w) (omega arith) x f in
+    let e = there (a .s .now) (a .at .pos) (a .w) x f in
     let p = is-on _ _ _ _ (k .read-at .ensures) x f in
     let n : a .at .taken + a .w ≡ k .read-at .result .at = omega (arith, p, o .count) in (
       taken-is _ _ (res-good _ x refl ∙ ap (ok x) p ∙ sym (from-good (a .at) _ (k .before .if1 .left) ∙ e .1)) (λ h. absurd (omega arith)) n,
@@ -107,7 +107,7 @@ returns-3 c =
     let k = c .before .before .before .before in
     let a = k .before .before .before .before .args in
     let o = k .before .before .before .before .pre .2 in
-    let e = absent (a .s .now) (a .at .pos) (a .w) (omega arith) (is-field _ _ _ _ (k .read-at .ensures) (c .before .before .enum-told .given .1)) in (
+    let e = absent (a .s .now) (a .at .pos) (a .w) (is-field _ _ _ _ (k .read-at .ensures) (c .before .before .enum-told .given .1)) in (
       taken-is _ _ (res-bad _ _ (omega arith) ∙ ap (bad 1) (omega arith) ∙ sym (from-good (a .at) _ (k .before .if1 .left) ∙ e .1)) (λ _. refl)
           (omega (arith, o .count, o .inside)),
       (

@@ -43,13 +43,15 @@ fn window(s: &[u8], k: usize) -> u64
 
 // The field of w bits that begins at bit pos: with at most 24 it lies within the four bytes from the one it begins in.
 pub fn field_at(s: &[u8], pos: usize, w: usize) -> Field
-    requires { ⌜ (w ≤ 24) × (pos < 2 ^ 62) ⌝ }
+    requires { ⌜ w ≤ 24 ⌝ }
     ensures { λ r. ⌜ r ≡ fieldAt (now (s .entry)) pos w ⌝ }
 {
-    if s.len() < (pos + w + 7) / 8 {
+    let k = pos / 8;
+    let r = pos % 8;
+    if s.len() < k + (r + w + 7) / 8 {
         return Field::Absent;
     }
-    let x = window(s, pos / 8) >> (32 - pos % 8 - w);
+    let x = window(s, k) >> (32 - r - w);
     let ones = (1u64 << w) - 1;
     Field::Value(x & ones)
 }

@@ -13,6 +13,9 @@ add-if1 c = search needs
 add-if1-2 : tie.Need-add-if1-2
 add-if1-2 c = search needs
 
+add-if1-3 : tie.Need-add-if1-3
+add-if1-3 c = search needs
+
 returns : tie.Need-returns
 returns c = let a = c .before .before .args in sym (field-short (a .s .now) (a .pos) (a .w) (omega arith))
 
@@ -45,6 +48,7 @@ field-at-spec =
     (tie.spec
     add-if1
     add-if1-2
+    add-if1-3
     returns
     window-requires
     sub-x

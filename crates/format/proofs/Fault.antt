@@ -14,7 +14,7 @@ use lib.Dec.{eqb}
 use lib.ListN.{length}
 use Rattle.bits.specs.Field.{numberAt}
 use Rattle.format.specs.Format.{Res, ok, bad, unless, first, tested, andThen, taken}
-use Rattle.format.specs.Steps.{judged, faultOf, Once}
+use Rattle.format.specs.Steps.{judged, faultOf, CountIsPlace}
 use Rattle.format.specs.declared.Cursor.{Cursor}
 
 pub unless-none : (b : Bool) (n : ℕ) → unless b n ≡ none → b ≡ true
@@ -107,13 +107,13 @@ judged-pos c b n = go b (decLt 0 (c .number))
     go false (no k) = ap (λ (x : Cursor). x .pos) (judged-fails c n (omega arith))
 
 -- judging takes nothing
-pub judged-once : {s : List ℕ} {c c′ : Cursor} (b : Bool) (n : ℕ) → c′ ≡ judged c b n → Once s c → Once s c′
-judged-once {s} {c} {c′} b n e o = go b e (decLt 0 (c .number))
+pub judged-count : {s : List ℕ} {c c′ : Cursor} (b : Bool) (n : ℕ) → c′ ≡ judged c b n → CountIsPlace s c → CountIsPlace s c′
+judged-count {s} {c} {c′} b n e o = go b e (decLt 0 (c .number))
   where
-    go : (b : Bool) → c′ ≡ judged c b n → Dec (0 < c .number) → Once s c′
-    go true e d = subst (Once s) (sym (e ∙ judged-holds c n)) o
-    go false e (yes k) = subst (Once s) (sym (e ∙ judged-before c false n k)) o
-    go false e (no k) = subst (Once s) (sym (e ∙ judged-fails c n (omega arith))) record { count = o .count; inside = o .inside }
+    go : (b : Bool) → c′ ≡ judged c b n → Dec (0 < c .number) → CountIsPlace s c′
+    go true e d = subst (CountIsPlace s) (sym (e ∙ judged-holds c n)) o
+    go false e (yes k) = subst (CountIsPlace s) (sym (e ∙ judged-before c false n k)) o
+    go false e (no k) = subst (CountIsPlace s) (sym (e ∙ judged-fails c n (omega arith))) record { count = o .count; inside = o .inside }
 
 -- where no number came, the test held
 pub judged-true : (c : Cursor) (b : Bool) (n : ℕ) → 0 < n → judged c b n .number ≡ 0 → b ≡ true

@@ -1,4 +1,4 @@
--- What the functions that read and write a format say of one step. A reader of the published calls can pass over this file:
+-- What the functions that read and write a format say of one step. A reader of the published calls can pass over this file, but for `CountIsPlace`:
 -- their promises do not cite it. A cursor goes through all steps; once it holds a number, every later step leaves it as it is.
 -- Assumes nothing.
 use mathlib.Core.Path.{_≡_}
@@ -30,8 +30,8 @@ takenOf (bad n q) = record { at = record { number = n; pos = q; taken = q }; val
 unfoldable pub judged : Cursor → Bool → ℕ → Cursor
 judged c b n = cond (eqb (c .number) 0) (cond b c record { number = n; pos = c .pos; taken = c .taken }) c
 
--- the bits of s up to the place were taken, none of them twice: as many were taken as stand before the place [02:T-03]
-pub record Once (s : List ℕ) (c : Cursor) : Type 0 where
+-- as many bits were taken as stand before the place, and the place is within the bytes s [02:T-03]
+pub record CountIsPlace (s : List ℕ) (c : Cursor) : Type 0 where
   pub count : c .taken ≡ c .pos
   pub inside : c .pos ≤ 8 * length s
 

@@ -3,7 +3,7 @@ ghost use mathlib.Core.Path.{_≡_};
 ghost use Prim.Native.Nat.{_+_, _*_, _^_, _≤_, _<_};
 ghost use lib.Dec.{ltb};
 ghost use Rattle.format.specs.Format.{Format, taken, field, within as withinOf};
-ghost use Rattle.format.specs.Steps.{from, takenOf, judged as judgedOf, Once, Near, Stores};
+ghost use Rattle.format.specs.Steps.{from, takenOf, judged as judgedOf, CountIsPlace, Near, Stores};
 
 pub mod bit_reader;
 
@@ -27,10 +27,10 @@ pub struct Taken {
 
 // The next w bits; 0 beside a refusal.
 pub fn take(s: &[u8], at: Cursor, w: usize) -> Taken
-    requires { ⌜ (w ≤ 24) × (at .pos < 2 ^ 40) × Once (now s) at ⌝ }
+    requires { ⌜ (w ≤ 24) × (at .pos < 2 ^ 40) × CountIsPlace (now s) at ⌝ }
     ensures { λ r. ⌜ r ≡ takenOf (from at (λ q. taken (now (s .entry)) q w)) ⌝ }
     ensures { λ r. ⌜ Near at (r .at) (r .value) w (2 ^ w) ⌝ }
-    ensures { λ r. ⌜ Once (now (s .entry)) (r .at) ⌝ }
+    ensures { λ r. ⌜ CountIsPlace (now (s .entry)) (r .at) ⌝ }
 {
     if at.number != 0 {
         return Taken { at, value: 0 };
@@ -89,10 +89,10 @@ pub fn within(lo: u64, end: u64, x: u64) -> bool
 
 // A field of w bits from lo up to, not including, end; any other number is refused with n. Beside a refusal the value is 0.
 pub fn read_field(s: &[u8], at: Cursor, w: usize, lo: u64, end: u64, n: u8) -> Taken
-    requires { ⌜ (w ≤ 24) × (at .pos < 2 ^ 40) × (0 < n) × Once (now s) at ⌝ }
+    requires { ⌜ (w ≤ 24) × (at .pos < 2 ^ 40) × (0 < n) × CountIsPlace (now s) at ⌝ }
     ensures { λ r. ⌜ r ≡ takenOf (from at (field w (withinOf lo end) n .read (now (s .entry)))) ⌝ }
     ensures { λ r. ⌜ Near at (r .at) (r .value) w end ⌝ }
-    ensures { λ r. ⌜ Once (now (s .entry)) (r .at) ⌝ }
+    ensures { λ r. ⌜ CountIsPlace (now (s .entry)) (r .at) ⌝ }
 {
     let t = take(s, at, w);
     let x = t.value;

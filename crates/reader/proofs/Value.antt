@@ -13,7 +13,7 @@ use Rattle.bits.specs.Packed.{tab}
 use Rattle.bits.proofs.Laws.{number-none}
 use Rattle.bits.proofs.Packed.{tab-zero, tab-first}
 use Rattle.format.specs.Format.{ok, taken, field, within}
-use Rattle.format.specs.Steps.{from, resOf, judged, Once}
+use Rattle.format.specs.Steps.{from, resOf, judged, CountIsPlace}
 use Rattle.format.specs.declared.Cursor.{Cursor}
 use Rattle.format.proofs.Chain.{from-good, res-good, chain-skip, chain-pair, chain-via, chain-field}
 use Rattle.format.proofs.Fault.{judged-holds, judged-pos, taken-value}
@@ -124,7 +124,7 @@ module _ (s : List ℕ) (c : Class) (at : Cursor) where
         omega arith
 
     -- the last field, of no bits, is there
-    no-bits : Once s p → resOf p 0 ≡ from p (λ q. taken s q 0)
+    no-bits : CountIsPlace s p → resOf p 0 ≡ from p (λ q. taken s q 0)
     no-bits o = go (decLt 0 (p .number))
       where
         go : Dec (0 < p .number) → resOf p 0 ≡ from p (λ q. taken s q 0)
@@ -136,7 +136,7 @@ module _ (s : List ℕ) (c : Class) (at : Cursor) where
             ∙ ap (ok 0) (omega arith) in
             res-good p 0 (omega arith) ∙ sym (from-good p _ (omega arith) ∙ none)
 
-    pub partly-all : Once s p → resOf p v ≡ from at (valueFormat (attrsOf c) .read s)
+    pub partly-all : CountIsPlace s p → resOf p v ≡ from at (valueFormat (attrsOf c) .read s)
     unfolding valueFormat
     partly-all o =
         let none : resOf p 0 ≡ from p (valueFormat [] .read s) =

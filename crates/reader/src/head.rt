@@ -2,7 +2,7 @@
 ghost use mathlib.Core.Path.{_≡_};
 ghost use Prim.Native.Nat.{_+_, _^_, _≤_, _<_};
 ghost use Rattle.format.specs.Format.{Format};
-ghost use Rattle.format.specs.Steps.{from, resOf, Once};
+ghost use Rattle.format.specs.Steps.{from, resOf, CountIsPlace};
 ghost use Rattle.policy.specs.File.{headFormat};
 ghost use Rattle.reader.specs.Parts.{headOf, Ranges};
 use super::Counts;
@@ -11,11 +11,11 @@ use format::read_field;
 
 // The head's counts.
 pub(super) fn read_counts(s: &[u8], at: Cursor) -> Counts
-    requires { ⌜ (at .pos < 2 ^ 39) × Once (now s) at ⌝ }
+    requires { ⌜ (at .pos < 2 ^ 39) × CountIsPlace (now s) at ⌝ }
     ensures { λ r. ⌜ resOf (r .at) (headOf r) ≡ from at (headFormat .read (now (s .entry))) ⌝ }
     ensures { λ r. ⌜ Ranges r ⌝ }
     ensures { λ r. ⌜ r .at .pos ≤ at .pos + 40 ⌝ }
-    ensures { λ r. ⌜ Once (now (s .entry)) (r .at) ⌝ }
+    ensures { λ r. ⌜ CountIsPlace (now (s .entry)) (r .at) ⌝ }
 {
     let a = read_field(s, at, 4, 0, 9, 2);
     let b = read_field(s, a.at, 4, 0, 9, 2);

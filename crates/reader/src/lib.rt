@@ -3,7 +3,7 @@
 ghost use mathlib.Core.Path.{_≡_};
 ghost use Prim.Native.Nat.{_≤_};
 ghost use Rattle.format.specs.Format.{Format};
-ghost use Rattle.format.specs.Steps.{resOf, Once};
+ghost use Rattle.format.specs.Steps.{resOf, CountIsPlace};
 ghost use Rattle.policy.specs.File.{policyFormat};
 ghost use Rattle.policy.specs.Rules.{policyOf, rulesBeside};
 
@@ -94,7 +94,7 @@ pub fn read_policy(s: &[u8]) -> RulesRead
     ensures { λ r. ⌜ resOf (r .at) (policyOf (r .rules)) ≡ policyFormat .read (now (s .entry)) 0 ⌝ }
     ensures { λ r. ⌜ r .rules ≡ rulesBeside (r .at .number) (r .rules) ⌝ }
     ensures { λ r. ⌜ r .at .pos ≤ 16680 ⌝ }
-    ensures { λ r. ⌜ Once (now (s .entry)) (r .at) ⌝ }
+    ensures { λ r. ⌜ CountIsPlace (now (s .entry)) (r .at) ⌝ }
 {
     let start = Cursor {
         number: 0,

@@ -2,7 +2,7 @@
 ghost use mathlib.Core.Path.{_≡_};
 ghost use Prim.Native.Nat.{_+_, _^_, _≤_, _<_};
 ghost use Rattle.format.specs.Format.{Format, rows};
-ghost use Rattle.format.specs.Steps.{from, resOf, Once};
+ghost use Rattle.format.specs.Steps.{from, resOf, CountIsPlace};
 ghost use Rattle.policy.specs.File.{sizesAfter, attrFormat, classFormat, listsFormat};
 ghost use Rattle.policy.specs.Rules.{attrsOf, listsOf};
 ghost use Rattle.reader.specs.Parts.{headOf, attrOf, Ranges, Narrow, AllNarrow};
@@ -23,10 +23,10 @@ use policy::shape::size_fits;
 
 // An attribute. `known` has the sizes of the lists as the earlier attributes gave them.
 fn read_attr<'a>(s: &'a [u8], at: Cursor, known: &'a [u8]) -> Attribute
-    requires { ⌜ (at .pos < 2 ^ 39) × Once (now s) at ⌝ }
+    requires { ⌜ (at .pos < 2 ^ 39) × CountIsPlace (now s) at ⌝ }
     ensures { λ r. ⌜ resOf (r .at) (attrOf r) ≡ from at (attrFormat (now (known .entry)) .read (now (s .entry))) ⌝ }
     ensures { λ r. ⌜ r .at .pos ≤ at .pos + 12 ⌝ }
-    ensures { λ r. ⌜ Once (now (s .entry)) (r .at) ⌝ }
+    ensures { λ r. ⌜ CountIsPlace (now (s .entry)) (r .at) ⌝ }
 {
     let k = read_field(s, at, 1, 0, 2, 4);
     let end = largest(k.value) + 1;
@@ -47,11 +47,11 @@ fn read_attr<'a>(s: &'a [u8], at: Cursor, known: &'a [u8]) -> Attribute
 
 // The n attributes of a class, however wide. `known` has the sizes of the lists before them, and then those after them.
 fn read_attrs(s: &[u8], at: Cursor, n: u8, known: &mut [u8]) -> ClassRead
-    requires { ⌜ (n ≤ 8) × (at .pos < 2 ^ 38) × Once (now s) at ⌝ }
+    requires { ⌜ (n ≤ 8) × (at .pos < 2 ^ 38) × CountIsPlace (now s) at ⌝ }
     ensures { λ r. ⌜ resOf (r .at) (attrsOf (r .class)) ≡ from at (rows n (λ l. attrFormat (sizesAfter (now (known .entry)) l)) .read (now (s .entry))) ⌝ }
     ensures { λ r. ⌜ now (known .exit) ≡ sizesAfter (now (known .entry)) (attrsOf (r .class)) ⌝ }
     ensures { λ r. ⌜ (r .at .pos ≤ at .pos + 96) × (r .class .count ≡ n) ⌝ }
-    ensures { λ r. ⌜ Once (now (s .entry)) (r .at) ⌝ }
+    ensures { λ r. ⌜ CountIsPlace (now (s .entry)) (r .at) ⌝ }
 {
     let mut kinds: [u8; 8] = [0; 8];
     let mut sizes: [u8; 8] = [0; 8];
@@ -78,12 +78,12 @@ fn read_attrs(s: &[u8], at: Cursor, n: u8, known: &mut [u8]) -> ClassRead
 // The n attributes of a class, at most 8 bits wide; no attributes where a number was given. `known` has the sizes of the lists before them, and where
 // no number was given then those after them.
 fn read_class(s: &[u8], at: Cursor, n: u8, known: &mut [u8]) -> ClassRead
-    requires { ⌜ (n ≤ 8) × (at .pos < 2 ^ 38) × Once (now s) at ⌝ }
+    requires { ⌜ (n ≤ 8) × (at .pos < 2 ^ 38) × CountIsPlace (now s) at ⌝ }
     ensures { λ r. ⌜ resOf (r .at) (attrsOf (r .class)) ≡ from at (classFormat (now (known .entry)) n .read (now (s .entry))) ⌝ }
     ensures { λ r. ⌜ (r .at .number ≡ 0 → now (known .exit) ≡ sizesAfter (now (known .entry)) (attrsOf (r .class))) ⌝ }
     ensures { λ r. ⌜ Narrow (r .class) ⌝ }
     ensures { λ r. ⌜ r .at .pos ≤ at .pos + 96 ⌝ }
-    ensures { λ r. ⌜ Once (now (s .entry)) (r .at) ⌝ }
+    ensures { λ r. ⌜ CountIsPlace (now (s .entry)) (r .at) ⌝ }
 {
     let r = read_attrs(s, at, n, known);
     let class = r.class;
@@ -105,11 +105,11 @@ fn read_class(s: &[u8], at: Cursor, n: u8, known: &mut [u8]) -> ClassRead
 
 // The attributes of all three classes, as many as the head says.
 pub(super) fn read_classes(s: &[u8], at: Cursor, h: Counts) -> ClassesRead
-    requires { ⌜ Ranges h × (at .pos < 2 ^ 37) × Once (now s) at ⌝ }
+    requires { ⌜ Ranges h × (at .pos < 2 ^ 37) × CountIsPlace (now s) at ⌝ }
     ensures { λ r. ⌜ resOf (r .at) (listsOf (r .classes)) ≡ from at (listsFormat (headOf h) .read (now (s .entry))) ⌝ }
     ensures { λ r. ⌜ AllNarrow (r .classes) ⌝ }
     ensures { λ r. ⌜ r .at .pos ≤ at .pos + 288 ⌝ }
-    ensures { λ r. ⌜ Once (now (s .entry)) (r .at) ⌝ }
+    ensures { λ r. ⌜ CountIsPlace (now (s .entry)) (r .at) ⌝ }
 {
     let mut known: [u8; 32] = [0; 32];
     let u = read_class(s, at, h.user, &mut known);

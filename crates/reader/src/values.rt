@@ -2,7 +2,7 @@
 ghost use mathlib.Core.Path.{_≡_};
 ghost use Prim.Native.Nat.{_+_, _^_, _≤_, _<_};
 ghost use Rattle.format.specs.Format.{Format, rows};
-ghost use Rattle.format.specs.Steps.{from, resOf, Once};
+ghost use Rattle.format.specs.Steps.{from, resOf, CountIsPlace};
 ghost use Rattle.policy.specs.File.{valueFormat, sessionFormat};
 ghost use Rattle.policy.specs.Rules.{attrsOf, valuesOf, sessionsOf};
 ghost use Rattle.reader.specs.Parts.{sessionOf, Narrow};
@@ -22,10 +22,10 @@ use policy::shape::code_ok;
 
 // A holder's value: its attributes' values side by side. The format's last field, of no bits, is there wherever the place is within the bytes.
 fn read_value(s: &[u8], at: Cursor, class: Class) -> Taken
-    requires { ⌜ (at .pos < 2 ^ 38) × Narrow class × Once (now s) at ⌝ }
+    requires { ⌜ (at .pos < 2 ^ 38) × Narrow class × CountIsPlace (now s) at ⌝ }
     ensures { λ r. ⌜ resOf (r .at) (r .value) ≡ from at (valueFormat (attrsOf class) .read (now (s .entry))) ⌝ }
     ensures { λ r. ⌜ (r .at .pos ≤ at .pos + 8) × (r .value < 256) ⌝ }
-    ensures { λ r. ⌜ Once (now (s .entry)) (r .at) ⌝ }
+    ensures { λ r. ⌜ CountIsPlace (now (s .entry)) (r .at) ⌝ }
 {
     let kinds = class.kinds;
     let sizes = class.sizes;
@@ -46,10 +46,10 @@ fn read_value(s: &[u8], at: Cursor, class: Class) -> Taken
 
 // The values of n holders of a class.
 pub(super) fn read_values(s: &[u8], at: Cursor, class: Class, n: u8) -> ValuesRead
-    requires { ⌜ (n ≤ 32) × (at .pos < 2 ^ 37) × Narrow class × Once (now s) at ⌝ }
+    requires { ⌜ (n ≤ 32) × (at .pos < 2 ^ 37) × Narrow class × CountIsPlace (now s) at ⌝ }
     ensures { λ r. ⌜ resOf (r .at) (valuesOf (r .values)) ≡ from at (rows n (λ _. valueFormat (attrsOf class)) .read (now (s .entry))) ⌝ }
     ensures { λ r. ⌜ (r .at .pos ≤ at .pos + 256) × (r .values .count ≡ n) ⌝ }
-    ensures { λ r. ⌜ Once (now (s .entry)) (r .at) ⌝ }
+    ensures { λ r. ⌜ CountIsPlace (now (s .entry)) (r .at) ⌝ }
 {
     let mut list: [u8; 32] = [0; 32];
     let mut p = at;
@@ -68,10 +68,10 @@ pub(super) fn read_values(s: &[u8], at: Cursor, class: Class, n: u8) -> ValuesRe
 
 // A starting session: its user, one of so many, and its value.
 fn read_session(s: &[u8], at: Cursor, class: Class, users: u8) -> SessionRead
-    requires { ⌜ (at .pos < 2 ^ 37) × Narrow class × Once (now s) at ⌝ }
+    requires { ⌜ (at .pos < 2 ^ 37) × Narrow class × CountIsPlace (now s) at ⌝ }
     ensures { λ r. ⌜ resOf (r .at) (sessionOf r) ≡ from at (sessionFormat users (attrsOf class) .read (now (s .entry))) ⌝ }
     ensures { λ r. ⌜ r .at .pos ≤ at .pos + 12 ⌝ }
-    ensures { λ r. ⌜ Once (now (s .entry)) (r .at) ⌝ }
+    ensures { λ r. ⌜ CountIsPlace (now (s .entry)) (r .at) ⌝ }
 {
     let u = read_field(s, at, 4, 0, users as u64, 7);
     let t = read_value(s, u.at, class);
@@ -85,10 +85,10 @@ fn read_session(s: &[u8], at: Cursor, class: Class, users: u8) -> SessionRead
 
 // The n starting sessions.
 pub(super) fn read_sessions(s: &[u8], at: Cursor, class: Class, users: u8, n: u8) -> SessionsRead
-    requires { ⌜ (n ≤ 32) × (at .pos < 2 ^ 36) × Narrow class × Once (now s) at ⌝ }
+    requires { ⌜ (n ≤ 32) × (at .pos < 2 ^ 36) × Narrow class × CountIsPlace (now s) at ⌝ }
     ensures { λ r. ⌜ resOf (r .at) (sessionsOf (r .sessions)) ≡ from at (rows n (λ _. sessionFormat users (attrsOf class)) .read (now (s .entry))) ⌝ }
     ensures { λ r. ⌜ (r .at .pos ≤ at .pos + 384) × (r .sessions .count ≡ n) ⌝ }
-    ensures { λ r. ⌜ Once (now (s .entry)) (r .at) ⌝ }
+    ensures { λ r. ⌜ CountIsPlace (now (s .entry)) (r .at) ⌝ }
 {
     let mut list: [u8; 32] = [0; 32];
     let mut values: [u8; 32] = [0; 32];

@@ -12,7 +12,7 @@ use lib.Dec.{eqb}
 use lib.ListN.{length, drop}
 use Rattle.format.specs.Format.{Res, ok, bad}
 use Rattle.format.specs.File.{SameBits, Bytes, refused, bytes, readFile, writeFile}
-use Rattle.format.specs.Steps.{resOf, Once}
+use Rattle.format.specs.Steps.{resOf, CountIsPlace}
 use Rattle.format.specs.declared.Cursor.{Cursor}
 use Rattle.format.proofs.Fault.{BadAt}
 use Rattle.format.proofs.Bounded.{file-short}
@@ -110,7 +110,7 @@ module _ (s : List ℕ) (c : Cursor) (p : Policy) (e : resOf c p ≡ readFile po
   ends-read z = rules-reading s p (c .pos) (sym e ∙ res-good c p z)
 
   -- and as many bits were taken as stand before its place
-  pub ends-bits : Once s c → c .taken ≡ bitsTaken s
+  pub ends-bits : CountIsPlace s c → c .taken ≡ bitsTaken s
   ends-bits o = go (decLt 0 (c .number))
     where
       go : Dec (0 < c .number) → c .taken ≡ bitsTaken s

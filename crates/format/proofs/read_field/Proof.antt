@@ -6,9 +6,9 @@ use native.Mathlib.Omega.{arith}
 use borrow.Author.Needs.{needs}
 use lib.Pow.{pow-pos}
 use Rattle.format.specs.Format.{field, within}
-use Rattle.format.specs.Steps.{from, resOf, Once}
+use Rattle.format.specs.Steps.{from, resOf, CountIsPlace}
 use Rattle.format.specs.declared.Cursor.{Cursor}
-use Rattle.format.proofs.Fault.{judged-pos, judged-once, judged-true}
+use Rattle.format.proofs.Fault.{judged-pos, judged-count, judged-true}
 use Rattle.format.proofs.Chain.{res-any, chain-field, taken-is, res-bits, within-true}
 use Rattle.format.proofs.read_field.Statement.{statement}
 use Rattle.format.proofs.read_field.Tie as tie
@@ -39,8 +39,8 @@ module _ (c : tie.After-judged) where
       let e : c .judged .result .pos ≡ t .result .at .pos = ap (λ (x : Cursor). x .pos) (c .judged .ensures) ∙ judged-pos _ _ _ in
       omega (arith, t .ensures .1 .0 .place)
 
-  counted : Once (c .before .before .before .before .args .s .now) (c .judged .result)
-  counted = judged-once _ _ (c .judged .ensures) (c .before .before .take .ensures .1 .1)
+  counted : CountIsPlace (c .before .before .before .before .args .s .now) (c .judged .result)
+  counted = judged-count _ _ (c .judged .ensures) (c .before .before .take .ensures .1 .1)
 
 returns : tie.Need-returns
 returns c =

@@ -3,10 +3,10 @@
 use mathlib.Core.Path.{_≡_, refl, sym, ap, _∙_}
 use native.Mathlib.Omega.{arith}
 use Rattle.format.specs.File.{readFile}
-use Rattle.format.specs.Steps.{resOf, judged, Once}
+use Rattle.format.specs.Steps.{resOf, judged, CountIsPlace}
 use Rattle.format.specs.declared.Cursor.{Cursor}
 use Rattle.format.proofs.Chain.{from-good, chain-file, res-field}
-use Rattle.format.proofs.Fault.{judged-once}
+use Rattle.format.proofs.Fault.{judged-count}
 use Rattle.policy.specs.File.{policyFormat}
 use Rattle.policy.specs.Rules.{policyOf}
 use Rattle.rules.specs.Answers.{answerOf, beside}
@@ -43,20 +43,20 @@ ended c =
     (res-field _ _ 3 s _ _ (omega arith) (c .before .before .before .read-field .ensures .0)) (c .before .at-end .ensures)
 
 -- and as many bits were taken as stand before it
-once : (c : tie.After-judged) → Once (c .before .before .before .before .before .before .before .before .args .file .now) (c .judged .result)
-once c = judged-once _ _ (c .judged .ensures) (c .before .before .before .read-field .ensures .1 .1)
+counted : (c : tie.After-judged) → CountIsPlace (c .before .before .before .before .before .before .before .before .args .file .now) (c .judged .result)
+counted c = judged-count _ _ (c .judged .ensures) (c .before .before .before .read-field .ensures .1 .1)
 
 returns : tie.Need-returns
 unfolding answerOf beside
 returns c =
     let k = c .before .before .before .before in
-    (sym (ends-refused _ _ _ (ended k) (omega arith)), (c .no-rules .ensures, ends-bits _ _ _ (ended k) (once k)))
+    (sym (ends-refused _ _ _ (ended k) (omega arith)), (c .no-rules .ensures, ends-bits _ _ _ (ended k) (counted k)))
 
 returns-2 : tie.Need-returns-2
 unfolding answerOf beside
 returns-2 c =
     let k = c .before .before .before in
-    (sym (ends-read _ _ _ (ended k) (c .if1 .left)), (refl, ends-bits _ _ _ (ended k) (once k)))
+    (sym (ends-read _ _ _ (ended k) (c .if1 .left)), (refl, ends-bits _ _ _ (ended k) (counted k)))
 
 pub read-rules-spec : {M : Type 1} → statement M
 read-rules-spec =

@@ -10,7 +10,7 @@ use borrow.Author.Needs.{needs}
 use lib.ListN.{length, getD, set}
 use lib.Seq.{getD-set-same, getD-set-other}
 use Rattle.format.specs.Format.{Format}
-use Rattle.format.specs.Steps.{from, resOf, Once}
+use Rattle.format.specs.Steps.{from, resOf, CountIsPlace}
 use Rattle.format.proofs.Chain.{chain-pair, chain-via, res-field}
 use Rattle.policy.specs.File.{formulaFormat}
 use Rattle.policy.specs.Rules.{listsOf, nodesOf, formulasOf}
@@ -36,7 +36,7 @@ short-more l f n h k short g m = go (decLt g f)
 abbrev Inv-loop : tie.InvT-loop
 Inv-loop s classes permissions lengths₀ nodes₀ p₀ f₀ f-end lengths nodes p f =
     (f ≤ f-end) × (f-end ≡ 4 + permissions) × (length lengths ≡ 12) × (length nodes ≡ 768) × (p .pos ≤ p₀ .pos + 1288 * f)
-    × ((g : ℕ) → g < f → getD lengths g 0 ≤ 64) × Reached (row classes) s (4 + permissions) p₀ p (formulasOf nodes lengths f) f × Once s p
+    × ((g : ℕ) → g < f → getD lengths g 0 ≤ 64) × Reached (row classes) s (4 + permissions) p₀ p (formulasOf nodes lengths f) f × CountIsPlace s p
 
 abbrev μ-loop : tie.MeasureT-loop
 μ-loop s classes permissions lengths₀ nodes₀ p₀ f₀ f-end lengths nodes p f = f-end - f

@@ -10,7 +10,7 @@ use Rattle.format.specs.Format.{field}
 use Rattle.format.specs.Steps.{from, resOf, judged}
 use Rattle.format.specs.declared.Cursor.{Cursor}
 use Rattle.format.proofs.Chain.{chain-check, chain-field, res-bits}
-use Rattle.format.proofs.Fault.{judged-holds, judged-fails, judged-before, judged-pos, judged-once}
+use Rattle.format.proofs.Fault.{judged-holds, judged-fails, judged-before, judged-pos, judged-count}
 use Rattle.policy.specs.Nodes.{nodeOk, listsAgree}
 use Rattle.policy.specs.File.{nodeFormat}
 use Rattle.policy.specs.Rules.{listsOf}
@@ -61,7 +61,7 @@ returns c =
     let sound : resOf (judged (t .result .at) ok 8) x ≡ from (a .at) (field 20 (nodeOk l (a .f) (a .i)) 8 .read s) =
     chain-field 20 _ 8 s (a .at) (t .result .at) x ok (res-bits s (a .at) 20 (t .result) (t .ensures .0)) refl (omega arith) in (
       ap (λ (z : Cursor). resOf z x) two ∙ chain-check _ _ 19 s (a .at) (judged (t .result .at) ok 8) x agree sound refl (omega arith),
-      ((omega (arith, same, t .ensures .1 .0 .place), t .ensures .1 .0 .fits), judged-once _ _ (c .judged .ensures) (t .ensures .1 .1)),
+      ((omega (arith, same, t .ensures .1 .0 .place), t .ensures .1 .0 .fits), judged-count _ _ (c .judged .ensures) (t .ensures .1 .1)),
     )
 
 pub read-node-spec : {M : Type 1} → statement M

@@ -9,7 +9,7 @@ use borrow.Author.Needs.{needs}
 use lib.ListN.{length, set}
 use lib.Seq.{getD-set-other}
 use Rattle.format.specs.Format.{Format}
-use Rattle.format.specs.Steps.{from, resOf, Once}
+use Rattle.format.specs.Steps.{from, resOf, CountIsPlace}
 use Rattle.policy.specs.File.{nodeFormat}
 use Rattle.policy.specs.Rules.{listsOf, nodesOf}
 use Rattle.policy.specs.declared.Classes.{Classes}
@@ -27,7 +27,7 @@ earlier-set l m f i x r = record { same = λ j h. getD-set-other m (64 * f + i) 
 
 abbrev Inv-loop : tie.InvT-loop
 Inv-loop s classes f n nodes₀ p₀ i₀ nodes p i =
-    (i ≤ n) × (length nodes ≡ 768) × (p .pos ≤ p₀ .pos + 20 * i) × Earlier nodes₀ nodes f × Reached (row classes f) s n p₀ p (nodesOf nodes f i) i × Once s p
+    (i ≤ n) × (length nodes ≡ 768) × (p .pos ≤ p₀ .pos + 20 * i) × Earlier nodes₀ nodes f × Reached (row classes f) s n p₀ p (nodesOf nodes f i) i × CountIsPlace s p
 
 abbrev μ-loop : tie.MeasureT-loop
 μ-loop s classes f n nodes₀ p₀ i₀ nodes p i = n - i

@@ -4,10 +4,10 @@ use Prim.Native.Nat.{ℕ, _+_}
 use native.Mathlib.Omega.{arith}
 use borrow.Author.Needs.{needs}
 use Rattle.format.specs.Format.{within, field}
-use Rattle.format.specs.Steps.{from, resOf, Once}
+use Rattle.format.specs.Steps.{from, resOf, CountIsPlace}
 use Rattle.format.specs.declared.Cursor.{Cursor}
 use Rattle.format.proofs.Chain.{chain-field, chain-pair, chain-via, chain-zeros, res-bits, res-field}
-use Rattle.format.proofs.Fault.{judged-pos, judged-once}
+use Rattle.format.proofs.Fault.{judged-pos, judged-count}
 use Rattle.policy.specs.File.{largest, sizeFits, attrFormat}
 use Rattle.reader.specs.Parts.{attrOf}
 use Rattle.reader.proofs.lists.read_attr.Statement.{statement}
@@ -47,15 +47,15 @@ place c =
     ap (λ (z : Cursor). z .pos) (c .judged .ensures) ∙ judged-pos (t .result .at) (c .before .size-fits .result) 18
 
 -- and takes nothing
-once : (c : tie.After-judged) → let k = c .before .before .before .before in Once (k .before .before .before .before .before .before .args .s .now) (c .judged .result)
-once c = judged-once _ _ (c .judged .ensures) (c .before .before .before .before .take .ensures .1 .1)
+counted : (c : tie.After-judged) → let k = c .before .before .before .before in CountIsPlace (k .before .before .before .before .before .before .args .s .now) (c .judged .result)
+counted c = judged-count _ _ (c .judged .ensures) (c .before .before .before .before .take .ensures .1 .1)
 
 read-field-requires-3 : tie.Need-read-field-requires-3
 read-field-requires-3 c κs =
     let kt = c .before .before .before .before in
     let kn = kt .before in
     let kk = kn .before .before in
-    (omega arith, omega (arith, place c, kt .take .ensures .1 .0 .place, kn .read-field2 .ensures .1 .0 .place, kk .read-field .ensures .1 .0 .place), omega arith, once c)
+    (omega arith, omega (arith, place c, kt .take .ensures .1 .0 .place, kn .read-field2 .ensures .1 .0 .place, kk .read-field .ensures .1 .0 .place), omega arith, counted c)
 
 cast-t15 : tie.Need-cast-t15
 cast-t15 c = let kk = c .before .before .before .before .before .before .before .before .before .before in omega (arith, kk .read-field .ensures .1 .0 .fits)

@@ -8,7 +8,7 @@ use native.Mathlib.Omega.{arith}
 use borrow.Author.Needs.{needs}
 use lib.ListN.{length, set}
 use Rattle.format.specs.Format.{Format}
-use Rattle.format.specs.Steps.{from, resOf, Once}
+use Rattle.format.specs.Steps.{from, resOf, CountIsPlace}
 use Rattle.policy.specs.Policy.{Attr}
 use Rattle.policy.specs.File.{sizesAfter, attrFormat}
 use Rattle.policy.specs.Rules.{attrsOf}
@@ -26,7 +26,7 @@ abbrev Inv-loop : tie.InvT-loop
 Inv-loop s n known₀ kinds₀ sizes₀ lists₀ p₀ i₀ i-end known kinds sizes lists p i =
     let l = attrsOf record { count = i; kinds = kinds; sizes = sizes; lists = lists } in
     (i ≤ i-end) × (i-end ≡ n) × (length kinds ≡ 8) × (length sizes ≡ 8) × (length lists ≡ 8) × (length known ≡ length known₀) × (p .pos ≤ p₀ .pos + 12 * i)
-    × (known ≡ sizesAfter known₀ l) × Reached (row known₀) s n p₀ p l i × Once s p
+    × (known ≡ sizesAfter known₀ l) × Reached (row known₀) s n p₀ p l i × CountIsPlace s p
 
 abbrev μ-loop : tie.MeasureT-loop
 μ-loop s n known₀ kinds₀ sizes₀ lists₀ p₀ i₀ i-end known kinds sizes lists p i = i-end - i

@@ -8,10 +8,10 @@ use borrow.Author.Needs.{needs}
 use borrow.Author.Tests.{leb-true}
 use lib.Dec.{leb}
 use lib.ListN.{replicate}
-use Rattle.format.specs.Steps.{from, resOf, Once}
+use Rattle.format.specs.Steps.{from, resOf, CountIsPlace}
 use Rattle.format.specs.declared.Cursor.{Cursor}
 use Rattle.format.proofs.Chain.{res-any, chain-check}
-use Rattle.format.proofs.Fault.{judged-pos, judged-once, judged-true}
+use Rattle.format.proofs.Fault.{judged-pos, judged-count, judged-true}
 use Rattle.policy.specs.Policy.{width}
 use Rattle.policy.specs.File.{classFormat}
 use Rattle.policy.specs.Rules.{attrsOf}
@@ -53,8 +53,8 @@ place c =
     let k = c .before .before .before .before .before .read-attrs in
     omega (arith, ap (λ (x : Cursor). x .pos) (c .judged .ensures), judged-pos (k .result .at) (leb (c .before .class-width .result) 8) 5, k .ensures .1 .1 .0 .0)
 
-once : (c : tie.After-judged) → Once (c .before .before .before .before .before .before .before .before .before .args .s .now) (c .judged .result)
-once c = judged-once _ _ (c .judged .ensures) (c .before .before .before .before .before .read-attrs .ensures .1 .1 .1)
+counted : (c : tie.After-judged) → CountIsPlace (c .before .before .before .before .before .before .before .before .before .args .s .now) (c .judged .result)
+counted c = judged-count _ _ (c .judged .ensures) (c .before .before .before .before .before .read-attrs .ensures .1 .1 .1)
 
 returns : tie.Need-returns
 unfolding width
@@ -62,7 +62,7 @@ returns c =
     let j = c .before .before in
     let none : Class = record { count = 0; kinds = replicate 8 0; sizes = replicate 8 0; lists = replicate 8 0 } in
     let narrow : width (attrsOf none) ≡ 0 = ap width (attrs-none none refl) in
-    (res-any (j .judged .result) _ _ (omega arith) ∙ read j, ((λ z. absurd (omega arith)), (record { count = omega arith; wide = omega (arith, narrow) }, (place j, once j))))
+    (res-any (j .judged .result) _ _ (omega arith) ∙ read j, ((λ z. absurd (omega arith)), (record { count = omega arith; wide = omega (arith, narrow) }, (place j, counted j))))
 
 returns-2 : tie.Need-returns-2
 returns-2 c =
@@ -73,7 +73,7 @@ returns-2 c =
     let b = j .before .before .before .before .before in
     let k = b .read-attrs in (
       read j,
-      ((λ z. k .ensures .1 .0), (record { count = omega (arith, k .ensures .1 .1 .0 .1, b .before .before .before .before .pre .0); wide = omega (arith, leb-true (w .result) 8 held, w .ensures .0) }, (place j, once j))),
+      ((λ z. k .ensures .1 .0), (record { count = omega (arith, k .ensures .1 .1 .0 .1, b .before .before .before .before .pre .0); wide = omega (arith, leb-true (w .result) 8 held, w .ensures .0) }, (place j, counted j))),
     )
 
 pub read-class-spec : {M : Type 1} → statement M

@@ -7,7 +7,7 @@ use native.Mathlib.Omega.{arith}
 use borrow.Author.Needs.{needs}
 use lib.ListN.{length}
 use Rattle.format.specs.Format.{Format}
-use Rattle.format.specs.Steps.{Once}
+use Rattle.format.specs.Steps.{CountIsPlace}
 use Rattle.policy.specs.Policy.{Session}
 use Rattle.policy.specs.File.{sessionFormat}
 use Rattle.policy.specs.Rules.{attrsOf, sessionsOf}
@@ -24,7 +24,7 @@ row users class _ = sessionFormat users (attrsOf class)
 abbrev Inv-loop : tie.InvT-loop
 Inv-loop s class users n list₀ values₀ p₀ i₀ i-end list values p i =
     (i ≤ i-end) × (i-end ≡ n) × (length list ≡ 32) × (length values ≡ 32) × (p .pos ≤ p₀ .pos + 12 * i)
-    × Reached (row users class) s n p₀ p (sessionsOf record { count = i; users = list; values = values }) i × Once s p
+    × Reached (row users class) s n p₀ p (sessionsOf record { count = i; users = list; values = values }) i × CountIsPlace s p
 
 abbrev μ-loop : tie.MeasureT-loop
 μ-loop s class users n list₀ values₀ p₀ i₀ i-end list values p i = i-end - i

@@ -8,9 +8,9 @@ use native.Mathlib.Nat.{mod-eq-of-lt}
 use native.Mathlib.Omega.{arith}
 use borrow.Author.Needs.{needs}
 use Rattle.format.specs.Format.{Format}
-use Rattle.format.specs.Steps.{from, judged, Once}
+use Rattle.format.specs.Steps.{from, judged, CountIsPlace}
 use Rattle.format.proofs.Chain.{res-bits}
-use Rattle.format.proofs.Fault.{judged-once}
+use Rattle.format.proofs.Fault.{judged-count}
 use Rattle.policy.specs.Rules.{attrAt}
 use Rattle.policy.proofs.Laws.{withoutLists, width-any, value-any}
 use Rattle.reader.proofs.Value.{Partly, partly-none, partly-room, partly-more, partly-below, partly-all}
@@ -19,7 +19,7 @@ use Rattle.reader.proofs.values.read_value.Tie as tie
 
 abbrev Inv-loop : tie.InvT-loop
 Inv-loop s kinds sizes v₀ p₀ i₀ i-end v p i =
-    (i ≤ i-end) × (i-end ≤ 8) × Partly s record { count = i-end; kinds = kinds; sizes = sizes; lists = [] } p₀ p v i × Once s p
+    (i ≤ i-end) × (i-end ≤ 8) × Partly s record { count = i-end; kinds = kinds; sizes = sizes; lists = [] } p₀ p v i × CountIsPlace s p
 
 abbrev μ-loop : tie.MeasureT-loop
 μ-loop s kinds sizes v₀ p₀ i₀ i-end v p i = i-end - i
@@ -92,7 +92,7 @@ loop-again c =
       rw (c .judged .ensures, exact)
           (partly-more (a .s .now) (withoutLists (a .class)) (a .at) (l .p) (l .v) (l .i) w (omega arith) (l .inv .2) (b .bits-for .ensures 0) (t .result .at) (t .result .value) (o .result)
           (res-bits (a .s .now) (l .p) w (t .result) (t .ensures .0)) (t .ensures .1 .0 .fits) (t .ensures .1 .0 .place) (o .ensures 0)),
-      judged-once _ _ (c .judged .ensures) (t .ensures .1 .1),
+      judged-count _ _ (c .judged .ensures) (t .ensures .1 .1),
     )
 
 returns : tie.Need-returns Inv-loop μ-loop

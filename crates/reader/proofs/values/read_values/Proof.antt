@@ -7,7 +7,7 @@ use native.Mathlib.Omega.{arith}
 use borrow.Author.Needs.{needs}
 use lib.ListN.{length}
 use Rattle.format.specs.Format.{Format}
-use Rattle.format.specs.Steps.{Once}
+use Rattle.format.specs.Steps.{CountIsPlace}
 use Rattle.policy.specs.File.{valueFormat}
 use Rattle.policy.specs.Rules.{attrsOf, valuesOf}
 use Rattle.policy.specs.declared.Class.{Class}
@@ -21,7 +21,7 @@ row class _ = valueFormat (attrsOf class)
 
 abbrev Inv-loop : tie.InvT-loop
 Inv-loop s class n list₀ p₀ i₀ i-end list p i =
-    (i ≤ i-end) × (i-end ≡ n) × (length list ≡ 32) × (p .pos ≤ p₀ .pos + 8 * i) × Reached (row class) s n p₀ p (valuesOf record { count = i; values = list }) i × Once s p
+    (i ≤ i-end) × (i-end ≡ n) × (length list ≡ 32) × (p .pos ≤ p₀ .pos + 8 * i) × Reached (row class) s n p₀ p (valuesOf record { count = i; values = list }) i × CountIsPlace s p
 
 abbrev μ-loop : tie.MeasureT-loop
 μ-loop s class n list₀ p₀ i₀ i-end list p i = i-end - i

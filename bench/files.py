@@ -36,7 +36,7 @@ for name, first, lists in (("nodes", None, [0]), ("plain", 3, [0]), ("lists", 3,
 
 
 def any_rules(dice, share):
-    """rules with a share of the largest counts, drawn by the dice between its square and itself; each formula says over and over that a constant is equal to itself"""
+    """rules in which each count is drawn between share * share and share of the largest; each formula says over and over that a constant is equal to itself"""
     def up_to(most, least=0):
         return dice.randint(max(least, round(most * share * share)), max(least, round(most * share)))
 

@@ -57,7 +57,7 @@ static inline uint64_t rights_value(uint64_t row) { return row >> 8 & 0xFFF; }
 /* Reads a rule file. 0: it is one. Else the file's number. Nothing is written. */
 uint32_t rights_read(const uint8_t *file, size_t len);
 
-/* Reads a rule file as rights_read does, and tells how many of its bits were taken, each once.
+/* Reads a rule file as rights_read does, and tells how many of its bits were taken.
    0: it is one, and `*bits` is 8 * len. Else the file's number: with 1 `*bits` is 8 * len; with another number the bits of all fields up to and
    including the one that was judged. The filling bits are one field; bytes after them give 3 and are not counted. */
 uint32_t rights_read_bits(const uint8_t *file, size_t len, uint64_t *bits);

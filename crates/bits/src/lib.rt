@@ -14,7 +14,7 @@ pub enum Field {
     Absent,
 }
 
-// The number of the four bytes from byte k on, with zeros past the end. No other function looks at the bytes of a file that is read.
+// The number of the four bytes from byte k on, with zeros past the end. No other function looks at the bytes of a file that `read_rules` reads.
 fn window(s: &[u8], k: usize) -> u64
     requires { ⌜ k < 2 ^ 62 ⌝ }
     ensures { λ r. ⌜ r ≡ numberAt (now (s .entry)) (8 * k) 32 ⌝ }

@@ -43,8 +43,7 @@ fn at_end(s: &[u8], pos: usize) -> bool
 }
 
 // Reads a file: its rules, or the file's number (1 to 8, 18 or 19: the first in reading order) and the rules of no file; and how many bits were taken:
-// with the rules or with 1 all bits of the file, with another number those up to and including the field that was judged. Every field is
-// taken once; what is looked at again is what was kept of it.
+// with the rules or with 1 all bits of the file, with another number those up to and including the field that was judged.
 pub fn read_rules(file: &[u8]) -> Parsed
     ensures { λ r. ⌜ answerOf (r .answer) (policyOf (r .rules)) ≡ reading (now (file .entry)) ⌝ }
     ensures { λ r. ⌜ r .rules ≡ beside (r .answer) (r .rules) ⌝ }

@@ -3,9 +3,10 @@
 What is proved is that the cursor's count and its place are equal after every function that reads; what this test adds is that nothing goes round the
 cursor. It knows the forms in which the file and a cursor may stand, and fails at every other one:
 A. A cursor is made in `take`, `judged` and `put_field`, and once, at the start of the file, in `read_policy`; never in a loop.
+   `take`, which has the file beside the cursors it makes, hands none of them on.
 B. A cursor stands once as a value: as an argument, in `let x = it;`, or in the result. It may stand in several results, of which one is given, but in
-   none after it was handed on. Its numbers may be read. A loop's variable begins before the loop, stands once in it, is set by the loop's last statement
-   to a cursor of that turn, and stands once after it.
+   none after it was handed on. Its numbers may be read. A loop's variable begins before the loop, stands once in it, is set by the loop's last
+   statement to a cursor of that turn, and stands once after it.
 C. Of a struct with a cursor in it only the cursor is handed on; as a parameter it is there for its other fields. No type has a cursor in another way.
 D. A loop in which a cursor stands has no other loop in or around it, no `break` and no `continue`, and no cursor from before it but its variable.
 E. A function that takes the file without a cursor is called in one place, and not in a loop; the methods of `BitReader` as well.
@@ -85,8 +86,8 @@ class Program:
             return kinds.get(t[a])
         if t[a + 1] == "." and b == a + 3:
             return "Cursor" if t[a + 2] == self.holders.get(kinds.get(t[a]), "") else None
-        if t[a] == "Cursor" and t[a + 1] == "{" and closing(t, a + 1) == b - 1:
-            return "Cursor"
+        if t[a] in self.tracked and t[a + 1] == "{" and closing(t, a + 1) == b - 1:
+            return t[a]
         for k in range(a, b):
             if t[k] == "(" and closing(t, k) == b - 1 and self.callee(f, k)[1] == a:
                 return self.callee(f, k)[0] and self.callee(f, k)[0].result
@@ -112,8 +113,8 @@ class Program:
         for i, token in enumerate(t):
             macro = token == "!" and t[i + 1] in ("(", "[", "{") and re.match(r"\w", t[i - 1]) and t[i - 1] not in KEYWORDS
             closure = token in ("|", "||") and (not re.match(r"[\w)\]]", t[i - 1]) or t[i - 1] in KEYWORDS)
-            spread = token in ASSIGNS and i + 1 not in f.lets and (t[i - 1] in (")", "}") or (t[i - 1] == "]" and t[f.inside[i - 2]] == "["
-                     and not re.match(r"[\w\]]", t[f.inside[i - 2] - 1])))
+            opens = next((k for k in range(i) if t[k] in ("(", "{", "[") and closing(t, k) == i - 1), None)
+            spread = token in ASSIGNS and i + 1 not in f.lets and opens and (t[opens] != "[" or not re.match(r"[\w\]]", t[opens - 1]))
             if token in UNKNOWN or macro or closure or spread:
                 self.fail(f, f"has what is none of the known forms: {' '.join(t[max(0, i - 3):i + 3])}")
             if token in ASSIGNS and t[i - 2] == "." and t[i - 1] in self.types["Cursor"]:
@@ -141,7 +142,7 @@ class Program:
             if g:
                 self.places.setdefault(g.path, []).append((f, start))
                 for (a, b), (_, kind) in zip(f.parts(start), g.params):
-                    if kind == "Cursor" and self.kind(f, kinds, a, b) != "Cursor":
+                    if kind == "Cursor" and (f.path == "format::take" or self.kind(f, kinds, a, b) != "Cursor"):
                         self.fail(f, f"hands {''.join(t[a:b])} to {g.path}, which is no cursor of a known form")
                 place, kind = self.place(f, first, closing(t, start) + 1)
                 if g.result in self.tracked and (place is None or (place == "argument" and kind != g.result)):
@@ -150,6 +151,14 @@ class Program:
                 given = {t[a]: self.kind(f, kinds, a + 2 if t[a + 1] == ":" else a, b) for a, b in f.parts(start)}
                 if given.get(self.holders[t[start - 1]]) != "Cursor":
                     self.fail(f, f"makes a {t[start - 1]} with no cursor of a known form")
+
+    def results(self, f, kinds):
+        """a function gives a cursor, or what has one, that it was given or that a function of these crates gave it"""
+        t, end = f.tokens, len(f.tokens) - 1
+        tail = max((k for k in range(end - 1) if t[k] in (";", "}") and f.inside[k] == 0), default=0) + 1
+        values = [(tail, end)] + [(i + 1, f.end(i)) for i, token in enumerate(t) if token == "return"]
+        if f.result in self.tracked and f.path not in MADE and any(self.kind(f, kinds, a, b) != f.result for a, b in values):
+            self.fail(f, f"gives a {f.result} of an unknown form")
 
     def cursors(self, f):
         """what is wrong with how a function hands on its cursors"""
@@ -160,6 +169,7 @@ class Program:
                 self.fail(f, f"gives the name {name} twice")
             kinds[name], bound[name] = (kind, a) if kinds.get(name) not in self.tracked else (kinds[name], bound[name])
         self.calls(f, kinds)
+        self.results(f, kinds)
         for i, name in enumerate(t):
             label = t[i - 1] in ("{", ",") and t[i + 1:i + 2] == [":"]
             if kinds.get(name) not in self.tracked or label or t[i - 1] in (".", "::", "let") or t[i - 2:i] == ["let", "mut"]:
@@ -194,7 +204,8 @@ class Program:
                 self.fail(f, f"uses the cursor {name} in an unknown form")
             (outer if f.loop(a) == home else inner).append((a, place))
             loop = f.loop(a)
-            if loop and ({"break", "continue"} & set(t[loop[1]:loop[2]]) or any(o != loop and (loop[0] < o[0] < loop[2] or o[0] < loop[0] < o[2]) for o in f.loops)):
+            others = [other for other in f.loops if loop and other != loop and other[0] < loop[2] and loop[0] < other[2]]
+            if others or (loop and {"break", "continue"} & set(t[loop[1]:loop[2]])):
                 self.fail(f, f"hands on the cursor {name} in a loop with another loop, `break` or `continue`")
         for a, _ in inner:
             loop = f.loop(a)
@@ -231,7 +242,8 @@ class Program:
         for f in {f for f, _ in seen if "Cursor" not in dict(f.params).values()}:
             called = self.places.get(f.path, [])
             if len(called) > (f.path != START) or any(g.loop(i) for g, i in called):
-                self.fail(f, f"takes the file without a cursor and is called in {len(called)} places or in a loop: {', '.join(g.path for g, _ in called)}")
+                by = ", ".join(g.path for g, _ in called)
+                self.fail(f, f"takes the file without a cursor and is called in {len(called)} places or in a loop: {by}")
         return looks
 
 

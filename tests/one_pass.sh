@@ -1,5 +1,7 @@
 #!/usr/bin/env bash
-# Reading goes over a file once: one function looks at its bytes, and no cursor is used twice.
+# Reading goes over a file once: one function looks at its bytes, and no cursor is used twice. Each wrong program of tests/one_pass/wrong.txt is noticed.
 set -eu
 cd "$(dirname "$0")/.."
-exec python3 tests/one_pass.py .
+export PYTHONDONTWRITEBYTECODE=1
+python3 tests/one_pass.py .
+python3 tests/one_pass/wrong.py

@@ -9,7 +9,8 @@ use lib.Dec.{ltb, leb, eqb}
 use lib.ListN.{length}
 use Rattle.bits.specs.Field.{numberAt}
 
--- what reading gives: a refusal's number and the bits taken until it was judged, or what was read and the place after it
+-- what reading gives: a refusal's number and the bits taken until it was judged, or what was read and the place after it. Each way of building a format
+-- below hands the place on from field to field, so from bit 0 on it is the count of the bits taken [02:T-03]
 pub data Res (A : Type 0) : Type 0 where
   bad : ℕ → ℕ → Res A
   ok : A → ℕ → Res A

@@ -1,5 +1,5 @@
--- Which bits reading needs: those up to the place of its result are enough to give the same, and none of them can be left out. In order: the place of a
--- result, the law, that it holds of what readings are made of, the law of a format and of each way of building one, a whole file.
+-- Which bits reading needs: those up to the place of its result are enough to give the same, and none of them can be left out. In order: the
+-- law, that it holds of what readings are made of, the law of a format and of each way of building one, a whole file.
 use mathlib.Core.Path.{_≡_, refl, sym, ap, _∙_, subst}
 use mathlib.Core.Bool.{Bool, true, false}
 use mathlib.Core.Logic.{_⊎_, inl, inr}
@@ -11,15 +11,10 @@ use borrow.Author.Tests.{eq-eqb, ne-eqb, eqb-true}
 use lib.Dec.{eqb}
 use lib.ListN.{length}
 use Rattle.bits.specs.Field.{numberAt}
-use Rattle.format.specs.Format.{Res, ok, bad, Format, tested, andThen, taken, field, check, rowsRead, rows, pair, via, zeros}
+use Rattle.format.specs.Format.{Res, ok, bad, bitsUntil, Format, tested, andThen, taken, field, check, rowsRead, rows, pair, via, zeros}
 use Rattle.format.specs.File.{SameBits, ended, readFile}
 use Rattle.format.proofs.Fault.{then-ok, ok-then, tested-ok, ok-tested, taken-value, taken-short}
 use Rattle.format.proofs.Bounded.{agree-less, agree-taken}
-
--- the place after what was read, or where the number was judged
-unfoldable pub placeOf : {A : Type 0} → Res A → ℕ
-placeOf (ok a q) = q
-placeOf (bad n q) = q
 
 -- no refusal by 1
 abbrev pub Whole : {A : Type 0} → Res A → Type 0
@@ -28,14 +23,14 @@ Whole r = (q : ℕ) → r ≡ bad 1 q → ⊥
 -- k reads bytes from pos on; of the bytes s it gives r
 pub record Reads {A : Type 0} (k : List ℕ → Res A) (s : List ℕ) (pos : ℕ) (r : Res A) : Type 0 where
   -- it goes onward, and not past the end
-  pub onward : pos ≤ placeOf r
-  pub inside : placeOf r ≤ 8 * length s
+  pub onward : pos ≤ bitsUntil r
+  pub inside : bitsUntil r ≤ 8 * length s
   -- 1 is given at the end
   pub one : (q : ℕ) → r ≡ bad 1 q → q ≡ 8 * length s
   -- bytes that have the bits up to the place give the same
-  pub enough : (s′ : List ℕ) → SameBits s s′ (placeOf r) → Whole r → k s′ ≡ r
+  pub enough : (s′ : List ℕ) → SameBits s s′ (bitsUntil r) → Whole r → k s′ ≡ r
   -- bytes that end before the place give 1
-  pub needed : (s′ : List ℕ) → SameBits s s′ (8 * length s′) → pos ≤ 8 * length s′ → 8 * length s′ < placeOf r → k s′ ≡ bad 1 (8 * length s′)
+  pub needed : (s′ : List ℕ) → SameBits s s′ (8 * length s′) → pos ≤ 8 * length s′ → 8 * length s′ < bitsUntil r → k s′ ≡ bad 1 (8 * length s′)
 
 -- so it is of all bytes, from every place in them
 abbrev Goes : {A : Type 0} → (List ℕ → ℕ → Res A) → Type 0
@@ -51,7 +46,7 @@ bad-place : {A : Type 0} (m p n q : ℕ) → _≡_ {A = Res A} (bad m p) (bad n 
 bad-place m p n q e = cc
 
 -- no bits, and no refusal by 1
-goes-stays : {A : Type 0} (r : ℕ → Res A) → ((pos : ℕ) → placeOf (r pos) ≡ pos) → ((pos : ℕ) → Whole (r pos)) → Goes (λ s pos. r pos)
+goes-stays : {A : Type 0} (r : ℕ → Res A) → ((pos : ℕ) → bitsUntil (r pos) ≡ pos) → ((pos : ℕ) → Whole (r pos)) → Goes (λ s pos. r pos)
 goes-stays r d h s pos l =
     record {
       onward = omega (arith, d pos);
@@ -62,16 +57,16 @@ goes-stays r d h s pos l =
     }
 
 goes-ok : {A : Type 0} (a : A) → Goes (λ s pos. ok a pos)
-unfolding placeOf
+unfolding bitsUntil
 goes-ok a = goes-stays (ok a) (λ pos. refl) (λ pos. ok-whole a pos)
 
 goes-tested : {A : Type 0} (b : Bool) (n : ℕ) (a : A) → (n ≡ 1 → ⊥) → Goes (λ s pos. tested b n a pos)
-unfolding placeOf tested
+unfolding bitsUntil tested
 goes-tested true n a h = goes-ok a
 goes-tested {A} false n a h = goes-stays {A = A} (bad n) (λ pos. refl) (λ pos. bad-whole n pos h)
 
 goes-taken : (w : ℕ) → Goes (λ s pos. taken s pos w)
-unfolding placeOf
+unfolding bitsUntil
 goes-taken w s pos h = go (decLe (pos + w) (8 * length s))
   where
     go : Dec (pos + w ≤ 8 * length s) → Reads (λ s′. taken s′ pos w) s pos (taken s pos w)
@@ -97,7 +92,7 @@ goes-taken w s pos h = go (decLe (pos + w) (8 * length s))
 module _ {A B : Type 0} (f : List ℕ → ℕ → Res A) (g : A → List ℕ → ℕ → Res B) (F : Goes f) (G : (a : A) → Goes (g a)) where
   -- one reading after another
   goes-then : Goes (λ s pos. andThen (f s pos) (λ a q. g a s q))
-  unfolding placeOf andThen
+  unfolding bitsUntil andThen
   goes-then s pos h = go (f s pos) (F s pos h)
     where
       then : List ℕ → Res B
@@ -130,7 +125,7 @@ module _ {A B : Type 0} (f : List ℕ → ℕ → Res A) (g : A → List ℕ →
           found : (s′ : List ℕ) {m : ℕ} → p ≤ m → SameBits s s′ m → then s′ ≡ g a s′ p
           found s′ l u = ok-then (f s′ pos) _ a p (t .enough s′ (agree-less l u) (ok-whole a p))
 
-          either : (s′ : List ℕ) → SameBits s s′ (8 * length s′) → pos ≤ 8 * length s′ → 8 * length s′ < placeOf (g a s p) → Dec (8 * length s′ < p)
+          either : (s′ : List ℕ) → SameBits s s′ (8 * length s′) → pos ≤ 8 * length s′ → 8 * length s′ < bitsUntil (g a s p) → Dec (8 * length s′ < p)
               → then s′ ≡ bad 1 (8 * length s′)
           either s′ u i j (yes l) = short s′ (t .needed s′ u i l)
           either s′ u i j (no l) = found s′ (omega arith) u ∙ v .needed s′ u (omega arith) j
@@ -184,8 +179,8 @@ tested-fails : {A : Type 0} (b : Bool) (m : ℕ) (a : A) (p : ℕ) → b ≡ fal
 unfolding tested
 tested-fails b m a p e = rw e refl
 
-tested-place : {A : Type 0} (b : Bool) (m : ℕ) (a : A) (p : ℕ) → placeOf (tested b m a p) ≡ p
-unfolding tested placeOf
+tested-place : {A : Type 0} (b : Bool) (m : ℕ) (a : A) (p : ℕ) → bitsUntil (tested b m a p) ≡ p
+unfolding tested bitsUntil
 tested-place true m a p = refl
 tested-place false m a p = refl
 
@@ -203,8 +198,8 @@ module _ {A : Type 0} where
   closed : List ℕ → Res A → Res A
   closed s r = andThen r (λ a q. tested (eqb q (8 * length s)) 3 a q)
 
-  closed-place : (s : List ℕ) (r : Res A) → placeOf (closed s r) ≡ placeOf r
-  unfolding closed andThen placeOf
+  closed-place : (s : List ℕ) (r : Res A) → bitsUntil (closed s r) ≡ bitsUntil r
+  unfolding closed andThen bitsUntil
   closed-place s (bad n q) = refl
   closed-place s (ok a q) = tested-place (eqb q (8 * length s)) 3 a q
 
@@ -253,7 +248,7 @@ module _ {A : Type 0} (f : Format A) where
 
     -- with another number the bits up to its place are enough; bytes that end there are read where 3 was for bytes that follow
     pub file-enough : (s s′ : List ℕ) (n q : ℕ) → readFile f s ≡ bad n q → (n ≡ 1 → ⊥) → SameBits s s′ q → Again s′ n q
-    unfolding closed andThen placeOf
+    unfolding closed andThen bitsUntil
     file-enough s s′ n q e h g = go (front s 0) (front-reads s) (sym (file-is s) ∙ e)
       where
         gives : (r : Res A) → front s′ 0 ≡ r → readFile f s′ ≡ closed s′ r
@@ -272,7 +267,7 @@ module _ {A : Type 0} (f : Format A) where
             at a (t .enough s′ (subst (SameBits s s′) (sym i) g) (ok-whole a p) ∙ ap (ok a) i) (sym z) (ℕ-discrete q (8 * length s′))
 
     -- and bytes that end before the place get 1
-    pub file-needed : (s s′ : List ℕ) → SameBits s s′ (8 * length s′) → 8 * length s′ < placeOf (readFile f s) → readFile f s′ ≡ bad 1 (8 * length s′)
+    pub file-needed : (s s′ : List ℕ) → SameBits s s′ (8 * length s′) → 8 * length s′ < bitsUntil (readFile f s) → readFile f s′ ≡ bad 1 (8 * length s′)
     unfolding closed andThen
     file-needed s s′ g h =
-        file-is s′ ∙ ap (closed s′) (front-reads s .needed s′ g (omega arith) (omega (arith, ap placeOf (file-is s), closed-place s (front s 0))))
+        file-is s′ ∙ ap (closed s′) (front-reads s .needed s′ g (omega arith) (omega (arith, ap bitsUntil (file-is s), closed-place s (front s 0))))

@@ -15,6 +15,11 @@ pub data Res (A : Type 0) : Type 0 where
   bad : ℕ → ℕ → Res A
   ok : A → ℕ → Res A
 
+-- the bits up to the place of a result: those that were taken until it was given
+unfoldable pub bitsUntil : {A : Type 0} → Res A → ℕ
+bitsUntil (bad n q) = q
+bitsUntil (ok a q) = q
+
 -- reading from the bytes at a bit position; the first fault of a value, in reading order; its fields, each a width and a number; those of its
 -- fields that stand before its first fault
 pub record Format (A : Type 0) : Type 0 where

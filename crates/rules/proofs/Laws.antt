@@ -10,13 +10,13 @@ use native.Mathlib.Omega.{arith}
 use borrow.Author.Tests.{le-leb, lt-leb, eq-eqb, ne-eqb}
 use lib.Dec.{eqb}
 use lib.ListN.{length, drop}
-use Rattle.format.specs.Format.{Res, ok, bad}
+use Rattle.format.specs.Format.{Res, ok, bad, bitsUntil}
 use Rattle.format.specs.File.{SameBits, Bytes, refused, bytes, readFile, writeFile}
 use Rattle.format.specs.Steps.{resOf, CountIsPlace}
 use Rattle.format.specs.declared.Cursor.{Cursor}
 use Rattle.format.proofs.Fault.{BadAt}
 use Rattle.format.proofs.Bounded.{file-short}
-use Rattle.format.proofs.Cut.{placeOf, Again, file-enough}
+use Rattle.format.proofs.Cut.{Again, file-enough}
 use Rattle.format.proofs.Chain.{res-good, res-bad}
 use Rattle.format.proofs.Round.{write-read, read-judged, refused-judged}
 use Rattle.policy.specs.Policy.{Policy}
@@ -24,7 +24,7 @@ use Rattle.policy.specs.File.{policyFormat}
 use Rattle.policy.proofs.Bound.{bounded-policy}
 use Rattle.policy.proofs.Cut.{cuts-policy}
 use Rattle.policy.proofs.PolicyLaw.{lawful-policy}
-use Rattle.rules.specs.Answers.{refusal, rules, answerOf, answered, reading, bitsOf, bitsTaken, writing, writtenOf, filled}
+use Rattle.rules.specs.Answers.{refusal, rules, answerOf, answered, reading, bitsTaken, writing, writtenOf, filled}
 use Rattle.rules.specs.Claims.{largestFile}
 use Rattle.rules.specs.declared.Reading.{Reading}
 use Rattle.rules.specs.declared.Reading.the-variants as Reading
@@ -61,22 +61,17 @@ pub same-reading : (s s′ : List ℕ) → readFile policyFormat s ≡ readFile 
 unfolding reading
 same-reading s s′ e = ap answered e
 
-place-bits : (r : Res Policy) → placeOf r ≡ bitsOf r
-unfolding placeOf bitsOf
-place-bits (ok p q) = refl
-place-bits (bad n q) = refl
-
 -- the bits taken are the place of the result
-pub place-taken : (s : List ℕ) → placeOf (readFile policyFormat s) ≡ bitsTaken s
+pub place-taken : (s : List ℕ) → bitsUntil (readFile policyFormat s) ≡ bitsTaken s
 unfolding bitsTaken
-place-taken s = place-bits (readFile policyFormat s)
+place-taken s = refl
 
 pub ok-taken : (s : List ℕ) (p : Policy) (q : ℕ) → readFile policyFormat s ≡ ok p q → bitsTaken s ≡ q
-unfolding bitsTaken bitsOf
+unfolding bitsTaken bitsUntil
 ok-taken s p q e = rw e refl
 
 pub bad-taken : (s : List ℕ) (n q : ℕ) → readFile policyFormat s ≡ bad n q → bitsTaken s ≡ q
-unfolding bitsTaken bitsOf
+unfolding bitsTaken bitsUntil
 bad-taken s n q e = rw e refl
 
 -- the answer to bytes that have the bits taken, from the result behind it

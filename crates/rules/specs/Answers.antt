@@ -7,7 +7,7 @@ use mathlib.Core.List.{List, _++_}
 use Prim.Native.Nat.{ℕ}
 use lib.Dec.{leb}
 use lib.ListN.{length, drop}
-use Rattle.format.specs.Format.{Res, ok, bad}
+use Rattle.format.specs.Format.{Res, ok, bad, bitsUntil}
 use Rattle.format.specs.File.{Bytes, refused, bytes, readFile, writeFile}
 use Rattle.policy.specs.Policy.{Policy}
 use Rattle.policy.specs.File.{policyFormat}
@@ -37,14 +37,9 @@ answered (bad n q) = refusal n
 unfoldable pub reading : List ℕ → Answer
 reading s = answered (readFile policyFormat s)
 
--- the bits that were taken: up to the end of the file, or until the number was judged
-unfoldable pub bitsOf : Res Policy → ℕ
-bitsOf (ok p q) = q
-bitsOf (bad n q) = q
-
--- how many bits reading a file takes [02:T-03]
+-- how many bits reading a file takes: up to its end, or until the number was judged [02:T-03]
 unfoldable pub bitsTaken : List ℕ → ℕ
-bitsTaken s = bitsOf (readFile policyFormat s)
+bitsTaken s = bitsUntil (readFile policyFormat s)
 
 -- the rules beside an answer: where a number is given they are those of no file
 unfoldable pub beside : Reading → Rules → Rules

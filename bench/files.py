@@ -5,11 +5,8 @@ import os
 import random
 import sys
 
-
-def packed(fields):
-    bits = "".join(format(x, f"0{w}b") for w, x in fields if w)
-    bits += "0" * (-len(bits) % 8)
-    return bytes(int(bits[k:k + 8], 2) for k in range(0, len(bits), 8))
+sys.dont_write_bytecode = True
+from pack import packed
 
 
 def rules(nodes, first, lists, few):

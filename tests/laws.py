@@ -5,7 +5,8 @@ import re
 import sys
 
 ANALYSER = ["replay", "search", "session_rows", "leak", "user_searches", "goal", "analyser"]
-MONITOR = ["formulas", "planes", "allowed", "cells", "live", "steps", "starting", "judge", "monitor"]
+MONITOR = ["formulas", "bitsets", "dependence", "planes", "leaves", "alike", "prepared", "tables", "preparing", "allowed", "cells", "live", "steps", "starting", "judge",
+           "monitor"]
 USE = rf"^\s*(?:pub )?use Rattle·({'|'.join(MONITOR)})\.specs\.(\S+?)"
 UNFOLDING = r"^( *)unfolding((?: +\S+)+(?:\n\1 +\S+(?: +\S+)*)*)$"
 

@@ -12,6 +12,7 @@ ghost use Rattle.allowed.specs.Basis.{BasisOf, modelBy};
 
 mod formula;
 mod holders;
+pub mod rows;
 
 use formula::says;
 use formula::sweep;

@@ -1,4 +1,4 @@
--- What is judged to be no fault is sound. In order: rows of a kind; the head; the classes; a starting session; the whole.
+-- What is judged to be no fault is sound. In order: rows of a kind; a class; a starting session; a formula; the head; the classes; the whole.
 use mathlib.Core.Path.{_≡_}
 use mathlib.Core.Bool.{Bool, true}
 use mathlib.Core.List.{List, [], _∷_, _++_}
@@ -10,10 +10,10 @@ use lib.Dec.{leb, ltb}
 use lib.ListN.{length, getD}
 use Rattle.format.specs.Format.{Format, within, field, check, rowsJudge, rows, via, zeros}
 use Rattle.format.proofs.Fault.{first-none, unless-none}
-use Rattle.format.proofs.Law.{judged-field, judged-pair, judged-rows}
+use Rattle.format.proofs.Law.{judged-field, judged-pair, judged-rows, judged-each as judged-at}
 use Rattle.bits.proofs.Set.{both-true}
 use Rattle.policy.specs.Policy.{Head, Attr, Lists, Session, width}
-use Rattle.policy.specs.File.{count, headFormat, noSizes, sizesAfter, classFormat, listsFormat, valueFormat, sessionFormat, policyFormat}
+use Rattle.policy.specs.File.{count, headFormat, noSizes, sizesAfter, classFormat, listsFormat, valueFormat, sessionFormat, formulaFormat, policyFormat}
 use Rattle.lists.specs.Sound.{startingSession, JudgedIsSound}
 use Rattle.lists.proofs.Laws.{judged-listed}
 
@@ -52,6 +52,12 @@ session-fits users l t j =
     let (a, b) = judged-pair (field 4 (within 0 users) 7) (λ _. valueFormat l) (t .user) (t .value) j in
     (within-below 0 users (t .user) (judged-field 4 (within 0 users) 7 (t .user) a .1) .1, b)
 
+formula-few : (c : Lists) (f : ℕ) (l : List ℕ) → formulaFormat c f .judge l ≡ none → length l ≤ 64
+unfolding formulaFormat via
+formula-few c f l j =
+    let (n, _) = judged-pair (field 8 (within 1 65) 8) _ (length l) l j in
+    omega (arith, within-below 1 65 (length l) (judged-field 8 (within 1 65) 8 (length l) n .1) .1)
+
 -- the counts of the head
 record Counts (h : Head) : Type 0 where
   users : h .users ≤ 16
@@ -78,15 +84,20 @@ head-counts h j =
 
 -- the classes
 record Narrow (c : Lists) : Type 0 where
+  user : width (c .ofUser) ≤ 8
   session : width (c .ofSession) ≤ 8
   item : width (c .ofItem) ≤ 8
 
 lists-narrow : (h : Head) (c : Lists) → listsFormat h .judge c ≡ none → Narrow c
 unfolding listsFormat via
 lists-narrow h c j =
-    let (_, j₁) = judged-pair (classFormat noSizes (h .userAttrs)) _ (c .ofUser) _ j in
+    let (u, j₁) = judged-pair (classFormat noSizes (h .userAttrs)) _ (c .ofUser) _ j in
     let (s, i) = judged-pair (classFormat (sizesAfter noSizes (c .ofUser)) (h .sessionAttrs)) _ (c .ofSession) (c .ofItem) j₁ in
-    record { session = class-width _ (h .sessionAttrs) (c .ofSession) s; item = class-width _ (h .itemAttrs) (c .ofItem) i }
+    record {
+      user = class-width _ (h .userAttrs) (c .ofUser) u;
+      session = class-width _ (h .sessionAttrs) (c .ofSession) s;
+      item = class-width _ (h .itemAttrs) (c .ofItem) i;
+    }
 
 pub judged-is-sound : JudgedIsSound
 unfolding policyFormat via startingSession
@@ -97,7 +108,7 @@ judged-is-sound p j =
     let (jc, j₂) = judged-pair (listsFormat h) _ c _ j₁ in
     let (ju, j₃) = judged-pair (rows (h .users) λ _. valueFormat (c .ofUser)) _ (p .users) _ j₂ in
     let (js, j₄) = judged-pair (rows (h .sessions) λ _. sessionFormat (h .users) (c .ofSession)) _ (p .sessions) _ j₃ in
-    let (ji, _) = judged-pair (rows (h .items) λ _. valueFormat (c .ofItem)) _ (p .items) (p .formulas) j₄ in
+    let (ji, jf) = judged-pair (rows (h .items) λ _. valueFormat (c .ofItem)) _ (p .items) (p .formulas) j₄ in
     let counts = head-counts h jh in
     let narrow = lists-narrow h c jc in
     let nu = judged-rows (h .users) (λ _. valueFormat (c .ofUser)) (p .users) ju in
@@ -112,9 +123,12 @@ judged-is-sound p j =
       permissions = counts .permissions;
       sessions = omega (arith, counts .sessions, ns);
       items = omega (arith, counts .items, ni);
+      user-width = narrow .user;
       session-width = narrow .session;
       item-width = narrow .item;
       session-user = λ k i. omega (arith, each k i .0, nu);
       session-value = λ k i. judged-listed (c .ofSession) (startingSession p k .value) (narrow .session) (each k i .1);
       item-value = λ k i. judged-listed (c .ofItem) (getD (p .items) k 0) (narrow .item) (judged-each (valueFormat (c .ofItem)) (h .items) (p .items) 0 ji k i);
+      nodes = λ f.
+          judged-at (λ l. formulaFormat c (length l)) (4 + h .permissions) (p .formulas) (λ l. length l ≤ 64) (λ l. formula-few c (length l)) jf f [] (omega arith);
     }

@@ -12,9 +12,9 @@ ghost use Rattle.planes.specs.Word.{Word, heldIn};
 
 mod listed;
 mod node;
-mod operand;
+pub mod operand;
 mod set;
-mod wide;
+pub mod wide;
 mod word;
 
 use formulas::Holders;
@@ -40,7 +40,7 @@ pub fn values_of(class: Class) -> [u64; 4]
 }
 
 // The attributes of the holder at the place `at`.
-fn class_of(classes: Classes, at: u8) -> Class
+pub fn class_of(classes: Classes, at: u8) -> Class
     ensures { λ r. ⌜ attrsOf r ≡ ofHolder (listsOf classes) at ⌝ }
 {
     if at == 0 {

@@ -9,11 +9,11 @@ use super::word::whole;
 
 // An operand: so many bits of the lane's number as `bits` says, from bit `shift` on, and above them the bits of one number. Its list has `size`
 // values.
-pub(super) struct Operand {
-    pub(super) shift: u8,
-    pub(super) bits: u8,
-    pub(super) number: u8,
-    pub(super) size: u8,
+pub struct Operand {
+    pub shift: u8,
+    pub bits: u8,
+    pub number: u8,
+    pub size: u8,
 }
 
 // Where one number is below another, and where they are the same.

@@ -31,7 +31,7 @@ fn compare_in(w: usize, op: u32, x: Operand, y: Operand) -> u64
 }
 
 // Where a comparison of operands holds. Where both are the same in every word, one word is the answer in all.
-fn compare_all(op: u32, x: Operand, y: Operand) -> [u64; 4]
+pub fn compare_all(op: u32, x: Operand, y: Operand) -> [u64; 4]
     ensures { λ r. ⌜ Lanes (comparedIn op x y) r ⌝ }
 {
     let first = compare_in(0, op, x, y);

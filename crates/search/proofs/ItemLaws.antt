@@ -8,9 +8,9 @@ use native.Mathlib.Omega.{arith}
 use borrow.Author.Tests.{le-leb, lt-leb}
 use lib.Dec.{ltb}
 use lib.ListN.{getD, length}
-use Rattle.lanes.specs.Lanes.{laneOf, Lanes, someBelow, highestOf, countBelow}
-use Rattle.lanes.proofs.Laws.{lanes-as, last-ext, highest-lanes}
-use Rattle.lanes.proofs.Counts.{count-ext}
+use Rattle.lanes.specs.Lanes.{laneOf, Lanes, someBelow, lastBelow, highestOf, countBelow, countOf}
+use Rattle.lanes.proofs.Laws.{lanes-as, lanes-own, last-ext, highest-lanes, highest-last}
+use Rattle.lanes.proofs.Counts.{count-ext, count-lanes}
 use Rattle.runs.specs.Model.{Model}
 use Rattle.runs.specs.Edge.{makesWith, modifiesTo}
 use Rattle.search.specs.Queue.{nothing, pushed, unmet, spread}
@@ -50,6 +50,19 @@ module _ (m : Model) (made : Bool) (o n : ℕ) (ready row : List ℕ) (H : Had m
   pub able-changed : made ≡ false → Lanes (λ (v : ℕ). laneOf ready v && m .mayModify v o n) row → Lanes (λ (v : ℕ). laneOf ready v && able m made o n v) row
   able-changed e l = lanes-as _ _ row l (λ v h. ap (λ (b : Bool). laneOf ready v && cond b (m .mayMake v n) (m .mayModify v o n)) (sym e) ∙ able-listed v h)
 
+-- the last number, or 256
+last-le : (f : ℕ → Bool) (n : ℕ) → n ≤ 256 → lastBelow f n ≤ 256
+unfolding lastBelow
+last-le f zero h = omega arith
+last-le f (suc n) h = go (f n) (last-le f n (omega arith))
+  where
+    go : (b : Bool) → lastBelow f n ≤ 256 → cond b n (lastBelow f n) ≤ 256
+    go true l = omega arith
+    go false l = l
+
+pub highest-le : (x : List ℕ) → highestOf x ≤ 256
+highest-le x = rw (highest-last x) (last-le (laneOf x) 256 (omega arith))
+
 -- the last of them
 pub able-last : (m : Model) (made : Bool) (o n : ℕ) (ready row : List ℕ) → Lanes (λ (v : ℕ). laneOf ready v && able m made o n v) row → highestOf row ≡ lastAble m (laneOf ready) made o n
 unfolding lastAble
@@ -86,15 +99,6 @@ module _ (m : Model) (ready : ℕ → Bool) (q : Found) where
   offered-turn i k r b h t =
       turn (offered m ready q i) (λ x. ready (255 - k) && someBelow (unmet (m .itemValue) x) 256) (λ x. spread (modifiesTo m (255 - k) (getD (q .order) i 0)) x (i + 1) (255 - k)) k refl r b h t
 
-  -- from the narrower side
-  pub widened-offered : (i : ℕ) → countBelow ready 256 ≤ countBelow (unmet (m .itemValue) q) 256 → widened m ready q i ≡ offered m ready q i 256
-  unfolding widened
-  widened-offered i h = simp (le-leb (countBelow ready 256) (countBelow (unmet (m .itemValue) q) 256) h)
-
-  pub widened-asked : (i : ℕ) → countBelow (unmet (m .itemValue) q) 256 < countBelow ready 256 → widened m ready q i ≡ asked m ready false (getD (q .order) i 0) q (i + 1) 256
-  unfolding widened
-  widened-asked i h = simp (lt-leb (countBelow ready 256) (countBelow (unmet (m .itemValue) q) 256) h)
-
   -- from one place after another, of items
   pub items-start : q ≡ growItems m ready q 0
   unfolding growItems
@@ -104,6 +108,22 @@ module _ (m : Model) (ready : ℕ → Bool) (q : Found) where
       → cond b (widened m ready r i) r ≡ growItems m ready q (i + 1)
   unfolding growItems
   items-turn i r b h t = turn (growItems m ready q) (λ x. ltb i (x .len) && someBelow (unmet (m .itemValue) x) 256) (λ x. widened m ready x i) i refl r b h t
+
+-- from the narrower side: k session values can be had, and n item values aren't found yet
+module _ (m : Model) (q : Found) (ready fresh : List ℕ) (R : length ready ≡ 4) (F : Lanes (unmet (m .itemValue) q) fresh) (k n : ℕ) (a : k ≡ countOf ready) (b : n ≡ countOf fresh) where
+  had : k ≡ countBelow (laneOf ready) 256
+  had = a ∙ count-lanes (laneOf ready) ready (lanes-own ready R)
+
+  new : n ≡ countBelow (unmet (m .itemValue) q) 256
+  new = b ∙ count-lanes (unmet (m .itemValue) q) fresh F
+
+  pub widened-offered : (i : ℕ) → k ≤ n → widened m (laneOf ready) q i ≡ offered m (laneOf ready) q i 256
+  unfolding widened
+  widened-offered i h = simp (le-leb (countBelow (laneOf ready) 256) (countBelow (unmet (m .itemValue) q) 256) (omega (arith, had, new)))
+
+  pub widened-asked : (i : ℕ) → n < k → widened m (laneOf ready) q i ≡ asked m (laneOf ready) false (getD (q .order) i 0) q (i + 1) 256
+  unfolding widened
+  widened-asked i h = simp (lt-leb (countBelow (laneOf ready) 256) (countBelow (unmet (m .itemValue) q) 256) (omega (arith, had, new)))
 
 -- session values that can be had, by their lanes
 module _ (m : Model) (f g : ℕ → Bool) (e : (v : ℕ) → v < 256 → f v ≡ g v) where
@@ -132,7 +152,7 @@ module _ (m : Model) (f g : ℕ → Bool) (e : (v : ℕ) → v < 256 → f v ≡
 
 -- those that helpers have, in the lists
 module _ (m : Model) (helpers own both : List ℕ) (S : Lanes (m .sessionValue) own) (B : Lanes (λ (v : ℕ). laneOf helpers v && laneOf own v) both) where
-  pub ready-lanes : Lanes (readyOf m (laneOf helpers)) both
+  ready-lanes : Lanes (readyOf m (laneOf helpers)) both
   unfolding readyOf
   ready-lanes = lanes-as _ _ both B (λ v h. ap (λ (b : Bool). laneOf helpers v && b) (S .each v h))
 
@@ -142,6 +162,12 @@ module _ (m : Model) (helpers own both : List ℕ) (S : Lanes (m .sessionValue) 
       right : (a b : Bool) → a && b ≡ true → b ≡ true
       right true b t = t
       right false b t = absurd (false≢true t)
+
+  pub ready-asked : (made : Bool) (o : ℕ) (q : Found) (from n : ℕ) → asked m (laneOf both) made o q from n ≡ asked m (readyOf m (laneOf helpers)) made o q from n
+  ready-asked = asked-ext m (laneOf both) (readyOf m (laneOf helpers)) (ready-lanes .each)
+
+  pub ready-items : (q : Found) (n : ℕ) → growItems m (laneOf both) q n ≡ growItems m (readyOf m (laneOf helpers)) q n
+  ready-items = items-ext m (laneOf both) (readyOf m (laneOf helpers)) (ready-lanes .each)
 
 pub one-is : (m : Model) (helper : ℕ → Bool) (j held : ℕ) → oneFound m helper j held ≡ growItems m (readyOf m helper) (pushed nothing held 0 (256 + j)) 256
 unfolding oneFound

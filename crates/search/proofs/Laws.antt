@@ -1,22 +1,30 @@
--- Laws of searches as the program makes them. In order: depths, one more value, turns of loops; values not found yet, the values of a row; from one
--- place after another, of sessions. Not here: items (ItemLaws).
-use mathlib.Core.Path.{_≡_, refl, sym, ap, _∙_}
+-- Laws of searches as the program makes them. In order: nothing found, depths, one more value, choices, turns of loops; values not found yet, the
+-- values of a row; from one place after another, of sessions. Not here: items (ItemLaws).
+use mathlib.Core.Path.{_≡_, refl, sym, ap, ap₂, _∙_}
 use mathlib.Core.Bool.{Bool, true, false, not, _&&_, cond, false≢true}
 use mathlib.Core.List.{List}
 use Prim.Native.Nat.{ℕ, zero, suc, _+_, _-_, _%_, _≤_, _<_}
 use native.Mathlib.Numerals.{add-one}
 use native.Mathlib.Omega.{arith}
-use borrow.Author.Tests.{le-leb, lt-leb, eq-eqb, ne-eqb}
+use borrow.Author.Tests.{le-leb, lt-leb, lt-ltb, le-ltb, eq-eqb, ne-eqb}
 use lib.Dec.{ltb}
-use lib.ListN.{getD, set}
+use lib.ListN.{getD, set, replicate}
 use Rattle.lanes.specs.Lanes.{laneOf, added, Lanes, someBelow, noLane}
 use Rattle.lanes.proofs.Laws.{Rest, lowest-here, lanes-as, none-lanes}
 use Rattle.runs.specs.Model.{Model}
 use Rattle.runs.specs.Edge.{opensWith, changesTo, modifiesTo}
 use Rattle.search.specs.Queue.{nothing, depthAfter, pushed, unmet, spreadTo, spread}
+use Rattle.search.specs.Lent.{foundOf}
 use Rattle.search.specs.Sessions.{growTo, sessionsFound, ownFound}
 use Rattle.search.specs.Items.{asked}
 use Rattle.search.specs.declared.queue.Found.{Found}
+use Rattle.search.specs.declared.queue.Head.{Head}
+
+-- nothing found, where the arrays are lent
+pub lent-nothing : {h : Head} → h ≡ record { seen = replicate 4 0; len = 0 }
+    → foundOf h (replicate 256 0) (replicate 256 0) (replicate 256 0) (replicate 256 0) (replicate 256 0) ≡ nothing
+unfolding nothing
+lent-nothing e = ap (λ (h : Head). foundOf h (replicate 256 0) (replicate 256 0) (replicate 256 0) (replicate 256 0) (replicate 256 0)) e
 
 module _ (q : Found) (from : ℕ) where
   pub depth-start : from ≡ 0 → depthAfter q from ≡ 0
@@ -49,6 +57,13 @@ module _ (q : Found) (y from via : ℕ) where
       }
   unfolding pushed
   push-room h = simp (lt-leb 256 (q .len) h)
+
+-- a choice by a flag that is known
+pub cond-on : (b : Bool) (p r : Found) {x : Found} → b ≡ true → x ≡ p → x ≡ cond b p r
+cond-on b p r e h = h ∙ sym (ap (λ (t : Bool). cond t p r) e)
+
+pub cond-off : (b : Bool) (p r : Found) → b ≡ false → r ≡ cond b p r
+cond-off b p r e = sym (ap (λ (t : Bool). cond t p r) e)
 
 -- a turn of a loop, where the next is made of the last behind a test
 pub turn : (X : ℕ → Found) (test : Found → Bool) (go : Found → Found) (n : ℕ) → X (suc n) ≡ cond (test (X n)) (go (X n)) (X n)
@@ -97,6 +112,13 @@ module _ (f : ℕ → Bool) (q : Found) where
         twice : (s : Bool) → not (not s) ≡ s
         twice true = refl
         twice false = refl
+
+    -- whether place i is worked off: there is one, and some value isn't found yet
+    pub more-at : (i : ℕ) (b t : Bool) → i < q .len → b ≡ noLane fresh → not b ≡ t → ltb i (q .len) && someBelow (unmet f q) 256 ≡ t
+    more-at i b t h e s = ap₂ _&&_ (lt-ltb i (q .len) h) (unmet-some b t e s)
+
+  pub more-end : (i : ℕ) → q .len ≤ i → ltb i (q .len) && someBelow (unmet f q) 256 ≡ false
+  more-end i h = ap (λ (b : Bool). b && someBelow (unmet f q) 256) (le-ltb i (q .len) h)
 
 pub unmet-ext : (f g : ℕ → Bool) (q : Found) (n : ℕ) → f n ≡ g n → unmet f q n ≡ unmet g q n
 unfolding unmet

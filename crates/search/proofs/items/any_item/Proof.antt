@@ -1,7 +1,6 @@
 -- `search::any_item` meets its contract.
-use mathlib.Core.Path.{_≡_, sym, ap, _∙_}
+use mathlib.Core.Path.{sym, ap, _∙_}
 use mathlib.Core.Bool.{true}
-use lib.ListN.{length}
 use Rattle.lanes.specs.Lanes.{laneOf}
 use Rattle.policy.specs.Rules.{valuesOf}
 use Rattle.policy.proofs.Laws.{values-length}
@@ -9,7 +8,8 @@ use Rattle.allowed.specs.Basis.{modelBy}
 use Rattle.search.specs.Queue.{nothing}
 use Rattle.search.specs.Items.{asked, startRoots, growItems, readyOf}
 use Rattle.search.specs.declared.queue.Found.{Found}
-use Rattle.search.proofs.ItemLaws.{asked-ext, items-ext, ready-lanes, ready-had, any-is}
+use Rattle.search.proofs.Laws.{lent-nothing}
+use Rattle.search.proofs.ItemLaws.{ready-had, ready-asked, ready-items, any-is}
 use borrow.Author.Needs.{needs}
 use Rattle.search.proofs.items.any_item.Statement.{statement}
 use Rattle.search.proofs.items.any_item.Tie as tie
@@ -17,35 +17,86 @@ use Rattle.search.proofs.items.any_item.Tie as tie
 ready-of-requires : tie.Need-ready-of-requires
 ready-of-requires c κs = search needs
 
-nothing-requires : tie.Need-nothing-requires
-nothing-requires c κs = search needs
+slice-aggregate-starting : tie.Need-slice-aggregate-starting
+slice-aggregate-starting c = search needs
+
+slice-aggregate-starting-2 : tie.Need-slice-aggregate-starting-2
+slice-aggregate-starting-2 c = search needs
+
+slice-aggregate-starting-3 : tie.Need-slice-aggregate-starting-3
+slice-aggregate-starting-3 c = search needs
+
+slice-aggregate-starting-4 : tie.Need-slice-aggregate-starting-4
+slice-aggregate-starting-4 c = search needs
+
+slice-aggregate-starting-5 : tie.Need-slice-aggregate-starting-5
+slice-aggregate-starting-5 c = search needs
+
+empty-requires : tie.Need-empty-requires
+empty-requires c κs = search needs
 
 starting-requires : tie.Need-starting-requires
 starting-requires c κs = search needs
 
+slice-aggregate-asked : tie.Need-slice-aggregate-asked
+slice-aggregate-asked c = search needs
+
+slice-aggregate-asked-2 : tie.Need-slice-aggregate-asked-2
+slice-aggregate-asked-2 c = search needs
+
+slice-aggregate-asked-3 : tie.Need-slice-aggregate-asked-3
+slice-aggregate-asked-3 c = search needs
+
+slice-aggregate-asked-4 : tie.Need-slice-aggregate-asked-4
+slice-aggregate-asked-4 c = search needs
+
+slice-aggregate-asked-5 : tie.Need-slice-aggregate-asked-5
+slice-aggregate-asked-5 c = search needs
+
 asked-requires : tie.Need-asked-requires
 asked-requires c κs = search needs
+
+slice-aggregate-grow : tie.Need-slice-aggregate-grow
+slice-aggregate-grow c = search needs
+
+slice-aggregate-grow-2 : tie.Need-slice-aggregate-grow-2
+slice-aggregate-grow-2 c = search needs
+
+slice-aggregate-grow-3 : tie.Need-slice-aggregate-grow-3
+slice-aggregate-grow-3 c = search needs
+
+slice-aggregate-grow-4 : tie.Need-slice-aggregate-grow-4
+slice-aggregate-grow-4 c = search needs
+
+slice-aggregate-grow-5 : tie.Need-slice-aggregate-grow-5
+slice-aggregate-grow-5 c = search needs
 
 grow-requires : tie.Need-grow-requires
 grow-requires c κs = search needs
 
+all-found-requires : tie.Need-all-found-requires
+all-found-requires c κs = search needs
+
 returns : tie.Need-returns
 returns c W =
-    let a = c .before .before .before .before .before .before .args in
+    let after-grow = c .before .before .before .before .before .before in
+    let after-asked = after-grow .before .before .before .before .before .before .before .before .before .before .before in
+    let after-starting = after-asked .before .before .before .before .before .before .before .before .before .before .before in
+    let after-empty = after-starting .before in
+    let after-ready-of = after-empty .before .before .before .before .before .before in
+    let a = after-ready-of .before .before .args in
     let m = modelBy (a .basis) (a .nodes .now) in
-    let ready = c .before .before .before .before .ready-of in
-    let R = ready-lanes m (a .helpers) (a .basis .sessions) (ready .result) (W .sessions) (ready .ensures) in
+    let ready = after-ready-of .ready-of in
     let H = ready-had m (a .helpers) (a .basis .sessions) (ready .result) (W .sessions) (ready .ensures) in
-    let start = c .before .before .starting in
     let h = readyOf m (laneOf (a .helpers)) in
     let vs = valuesOf (a .items) in
-    let s : start .result ≡ startRoots vs nothing (length vs) = start .ensures
-    ∙ ap (λ (q : Found). startRoots vs q (a .items .count)) (c .before .before .before .nothing .ensures)
-    ∙ ap (startRoots vs nothing) (sym (values-length (a .items))) in
-    c .grow .ensures W H
-    ∙ items-ext m (laneOf (ready .result)) h (R .each) (c .before .asked .result) 256
+    c .all-found .ensures ∙ after-grow .grow .ensures W H
+    ∙ ready-items m (a .helpers) (a .basis .sessions) (ready .result) (W .sessions) (ready .ensures) _ 256
     ∙ ap (λ (q : Found). growItems m h q 256)
-    (c .before .asked .ensures W H ∙ asked-ext m (laneOf (ready .result)) h (R .each) true 0 (start .result) 0 256 ∙ ap (λ (q : Found). asked m h true 0 q 0 256) s)
+    (after-asked .asked .ensures W H
+    ∙ ready-asked m (a .helpers) (a .basis .sessions) (ready .result) (W .sessions) (ready .ensures) true 0 _ 0 256
+    ∙ ap (λ (q : Found). asked m h true 0 q 0 256)
+    (after-starting .starting .ensures ∙ ap (λ (q : Found). startRoots vs q (a .items .count)) (lent-nothing (after-empty .empty .ensures)) ∙ ap (startRoots vs nothing) (sym (values-length (a .items)))))
     ∙ sym (any-is m (laneOf (a .helpers)) vs)
 
 pub any-item-spec : {M : Type 1} → statement M
@@ -53,8 +104,24 @@ any-item-spec =
     tie.close
     (tie.spec
     ready-of-requires
-    nothing-requires
+    slice-aggregate-starting
+    slice-aggregate-starting-2
+    slice-aggregate-starting-3
+    slice-aggregate-starting-4
+    slice-aggregate-starting-5
+    empty-requires
     starting-requires
+    slice-aggregate-asked
+    slice-aggregate-asked-2
+    slice-aggregate-asked-3
+    slice-aggregate-asked-4
+    slice-aggregate-asked-5
     asked-requires
+    slice-aggregate-grow
+    slice-aggregate-grow-2
+    slice-aggregate-grow-3
+    slice-aggregate-grow-4
+    slice-aggregate-grow-5
     grow-requires
+    all-found-requires
     returns)

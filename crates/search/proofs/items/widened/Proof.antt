@@ -1,21 +1,13 @@
 -- `search::widened` meets its contract: the counts are those of the definition.
 use mathlib.Core.Path.{_≡_, sym, _∙_}
-use native.Mathlib.Omega.{arith}
 use lib.ListN.{length}
-use Rattle.lanes.specs.Lanes.{laneOf, countBelow}
-use Rattle.lanes.proofs.Laws.{lanes-own}
-use Rattle.lanes.proofs.Counts.{count-lanes}
 use Rattle.allowed.specs.Basis.{modelBy}
-use Rattle.search.specs.Queue.{unmet}
+use Rattle.search.specs.Lent.{foundOf}
 use Rattle.search.proofs.Laws.{unmet-lanes}
 use Rattle.search.proofs.ItemLaws.{widened-offered, widened-asked}
 use borrow.Author.Needs.{needs}
 use Rattle.search.proofs.items.widened.Statement.{statement}
 use Rattle.search.proofs.items.widened.Tie as tie
-
--- a set has four words
-ready-long : (s : tie.Start) → length (s .args .ready) ≡ 4
-ready-long s = search needs
 
 count-requires : tie.Need-count-requires
 count-requires c κs = search needs
@@ -29,19 +21,42 @@ count-requires-2 c κs = search needs
 offered-requires : tie.Need-offered-requires
 offered-requires c κs = search needs
 
-returns : tie.Need-returns
-returns c =
-    let s₀ = c .before .before .before .before .before .before .before .before in
-    let a = s₀ .args in
-    let m = modelBy (a .basis) (a .nodes .now) in
-    let x = c .before .before .before .minus in
-    λ W H.
-    let p : c .before .before .before .before .count .result ≡ countBelow (laneOf (a .ready)) 256 = c .before .before .before .before .count .ensures ∙ count-lanes (laneOf (a .ready)) (a .ready) (lanes-own (a .ready) (ready-long s₀)) in
-    let s : c .before .before .count2 .result ≡ countBelow (unmet (m .itemValue) (a .t4)) 256 = c .before .before .count2 .ensures ∙ count-lanes (unmet (m .itemValue) (a .t4)) (x .result) (unmet-lanes (m .itemValue) (a .t4) (a .basis .items) (x .result) (W .items) (x .ensures)) in
-    c .offered .ensures W ∙ sym (widened-offered m (laneOf (a .ready)) (a .t4) (a .i) (omega (arith, p, s, c .before .if1 .taken)))
+same-length : tie.Need-same-length
+same-length c = search needs
 
-element-copy-out-asked : tie.Need-element-copy-out-asked
-element-copy-out-asked c = search needs
+same-length-2 : tie.Need-same-length-2
+same-length-2 c = search needs
+
+same-length-3 : tie.Need-same-length-3
+same-length-3 c = search needs
+
+same-length-4 : tie.Need-same-length-4
+same-length-4 c = search needs
+
+same-length-5 : tie.Need-same-length-5
+same-length-5 c = search needs
+
+-- a set has four words
+ready-long : (s : tie.Start) → length (s .args .ready) ≡ 4
+ready-long s = search needs
+
+returns : tie.Need-returns
+returns c W H =
+    let after-offered = c .before .before .before .before .before .before .before .before .before .before in
+    let after-if1 = after-offered .before .before .before .before .before .before in
+    let after-count2 = after-if1 .before in
+    let after-minus = after-count2 .before in
+    let after-count = after-minus .before in
+    let start = after-count .before .before .before .before .before .before .before .before .before in
+    let a = start .args in
+    let q = foundOf (a .head) (a .order .now) (a .from .now) (a .via .now) (a .depth .now) (a .place .now) in
+    after-offered .offered .ensures W
+    ∙ sym
+    (widened-offered (modelBy (a .basis) (a .nodes .now)) q (a .ready) _ (ready-long start) (unmet-lanes _ q (a .basis .items) _ (W .items) (after-minus .minus .ensures)) _ _ (after-count .count .ensures)
+    (after-count2 .count2 .ensures) (a .i) (after-if1 .if1 .taken))
+
+slice-read-o : tie.Need-slice-read-o
+slice-read-o c = search needs
 
 add-asked : tie.Need-add-asked
 add-asked c = search needs
@@ -52,16 +67,35 @@ cast-asked c = search needs
 asked-requires : tie.Need-asked-requires
 asked-requires c κs = search needs
 
+same-length-6 : tie.Need-same-length-6
+same-length-6 c = search needs
+
+same-length-7 : tie.Need-same-length-7
+same-length-7 c = search needs
+
+same-length-8 : tie.Need-same-length-8
+same-length-8 c = search needs
+
+same-length-9 : tie.Need-same-length-9
+same-length-9 c = search needs
+
+same-length-10 : tie.Need-same-length-10
+same-length-10 c = search needs
+
 returns-2 : tie.Need-returns-2
-returns-2 c =
-    let s₀ = c .before .before .before .before .before .before .before .before .before in
-    let a = s₀ .args in
-    let m = modelBy (a .basis) (a .nodes .now) in
-    let x = c .before .before .before .before .minus in
-    λ W H.
-    let p : c .before .before .before .before .before .count .result ≡ countBelow (laneOf (a .ready)) 256 = c .before .before .before .before .before .count .ensures ∙ count-lanes (laneOf (a .ready)) (a .ready) (lanes-own (a .ready) (ready-long s₀)) in
-    let s : c .before .before .before .count2 .result ≡ countBelow (unmet (m .itemValue) (a .t4)) 256 = c .before .before .before .count2 .ensures ∙ count-lanes (unmet (m .itemValue) (a .t4)) (x .result) (unmet-lanes (m .itemValue) (a .t4) (a .basis .items) (x .result) (W .items) (x .ensures)) in
-    c .asked .ensures W H ∙ sym (widened-asked m (laneOf (a .ready)) (a .t4) (a .i) (omega (arith, p, s, c .before .before .if1 .left)))
+returns-2 c W H =
+    let after-asked = c .before .before .before .before .before .before .before .before .before .before in
+    let after-if1 = after-asked .before .before .before .before .before .before .before in
+    let after-count2 = after-if1 .before in
+    let after-minus = after-count2 .before in
+    let after-count = after-minus .before in
+    let start = after-count .before .before .before .before .before .before .before .before .before in
+    let a = start .args in
+    let q = foundOf (a .head) (a .order .now) (a .from .now) (a .via .now) (a .depth .now) (a .place .now) in
+    after-asked .asked .ensures W H
+    ∙ sym
+    (widened-asked (modelBy (a .basis) (a .nodes .now)) q (a .ready) _ (ready-long start) (unmet-lanes _ q (a .basis .items) _ (W .items) (after-minus .minus .ensures)) _ _ (after-count .count .ensures)
+    (after-count2 .count2 .ensures) (a .i) (after-if1 .if1 .left))
 
 pub widened-spec : {M : Type 1} → statement M
 widened-spec =
@@ -71,9 +105,19 @@ widened-spec =
     minus-requires
     count-requires-2
     offered-requires
+    same-length
+    same-length-2
+    same-length-3
+    same-length-4
+    same-length-5
     returns
-    element-copy-out-asked
+    slice-read-o
     add-asked
     cast-asked
     asked-requires
+    same-length-6
+    same-length-7
+    same-length-8
+    same-length-9
+    same-length-10
     returns-2)

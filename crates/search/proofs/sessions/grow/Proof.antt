@@ -1,50 +1,33 @@
 -- `search::grow` of sessions meets its contract. The loop's invariant: the places below i are gone through. The measure is what is left of the 256.
-use mathlib.Core.Path.{_≡_, ap, ap₂, _∙_}
-use mathlib.Core.Bool.{Bool, true, false, _&&_}
-use mathlib.Core.Logic.{⊎-elim}
-use Prim.Native.Nat.{_+_, _-_, _≤_}
+use mathlib.Core.Path.{_≡_, ap, _∙_}
+use Prim.Native.Nat.{_-_, _≤_}
 use native.Mathlib.Omega.{arith}
-use borrow.Author.Tests.{lt-ltb, le-ltb}
-use lib.ListN.{getD}
-use Rattle.lanes.specs.Lanes.{someBelow}
 use Rattle.runs.specs.Edge.{changesTo}
 use Rattle.allowed.specs.Basis.{modelBy, InLists}
-use Rattle.search.specs.Queue.{unmet}
+use Rattle.search.specs.Lent.{foundOf, Long}
 use Rattle.search.specs.Sessions.{growTo}
-use Rattle.search.proofs.Laws.{unmet-some, unmet-lanes, grow-start, grow-turn, spread-changes}
+use Rattle.search.proofs.Laws.{grow-start}
 use borrow.Author.Needs.{needs}
 use Rattle.search.proofs.sessions.grow.Statement.{statement}
 use Rattle.search.proofs.sessions.grow.Tie as tie
 
 abbrev Inv-loop : tie.InvT-loop
-Inv-loop basis nodes u within r₀ i₀ r i = (i ≤ 256) × (InLists basis nodes → r ≡ growTo (modelBy basis nodes .sessionValue) (changesTo (modelBy basis nodes) u) r₀ i)
+Inv-loop order₀ from₀ via₀ depth₀ place₀ basis nodes u h₀ i₀ order from via depth place h i =
+    (i ≤ 256)
+    × Long order from via depth place
+    × (InLists basis nodes → foundOf h order from via depth place ≡ growTo (modelBy basis nodes .sessionValue) (changesTo (modelBy basis nodes) u) (foundOf h₀ order₀ from₀ via₀ depth₀ place₀) i)
 
 abbrev μ-loop : tie.MeasureT-loop
-μ-loop basis nodes u within r₀ i₀ r i = 256 - i
+μ-loop order₀ from₀ via₀ depth₀ place₀ basis nodes u h₀ i₀ order from via depth place h i = 256 - i
 
 loop-holds : tie.Need-loop-holds Inv-loop μ-loop
-loop-holds c = let a = c .before .before .args in (search needs, λ W. grow-start (changesTo (modelBy (a .basis) (a .nodes .now)) (a .u)) (a .q) (modelBy (a .basis) (a .nodes .now) .sessionValue))
+loop-holds c =
+    let a = c .before .before .before .before .before .before .args in
+    let m = modelBy (a .basis) (a .nodes .now) in
+    (search needs, search needs, λ W. grow-start (changesTo m (a .u)) _ (m .sessionValue))
 
-minus-requires : tie.Need-minus-requires Inv-loop μ-loop
-minus-requires c κs = search needs
-
-is-none-requires : tie.Need-is-none-requires Inv-loop μ-loop
-is-none-requires c κs = search needs
-
-element-copy-out-changed-to : tie.Need-element-copy-out-changed-to Inv-loop μ-loop
-element-copy-out-changed-to c = search needs
-
-changed-to-requires : tie.Need-changed-to-requires Inv-loop μ-loop
-changed-to-requires c κs = search needs
-
-add-spread : tie.Need-add-spread Inv-loop μ-loop
-add-spread c = search needs
-
-cast-spread : tie.Need-cast-spread Inv-loop μ-loop
-cast-spread c = search needs
-
-spread-requires : tie.Need-spread-requires Inv-loop μ-loop
-spread-requires c κs = search needs
+grow-at-requires : tie.Need-grow-at-requires Inv-loop μ-loop
+grow-at-requires c κs = search needs
 
 add-i : tie.Need-add-i Inv-loop μ-loop
 add-i c = search needs
@@ -53,30 +36,37 @@ loop-less : tie.Need-loop-less Inv-loop μ-loop
 loop-less c = search needs
 
 loop-again : tie.Need-loop-again Inv-loop μ-loop
-loop-again c =
-    let a = c .before .before .before .before .before .args in
-    let l = c .before .before .loop in
-    let m = modelBy (a .basis) (a .nodes .now) in
-    let f = m .sessionValue in (
-      search needs,
-      λ W. ⊎-elim
-          (λ z. z .8 ∙ z .7 .ensures ∙ spread-changes (l .r) (l .i + 1) 0 (z .2 .result) (z .6 .result) m (a .u) (getD (l .r .order) (l .i) 0) (unmet-lanes f (l .r) (a .basis .sessions) (z .2 .result) (W .sessions) (z .2 .ensures)) (z .6 .ensures)
-          ∙ grow-turn (changesTo m (a .u)) (a .q) f (l .i) (l .r) true (l .inv .1 W)
-          (ap₂ _&&_ (lt-ltb (l .i) (l .r .len) (z .0 .taken)) (unmet-some f (l .r) (a .basis .sessions) (z .2 .result) (W .sessions) (z .2 .ensures) (z .3 .result) true (z .3 .ensures) (z .4 .taken))))
-          (⊎-elim
-          (λ z. z .5
-          ∙ grow-turn (changesTo m (a .u)) (a .q) f (l .i) (l .r) false (l .inv .1 W)
-          (ap₂ _&&_ (lt-ltb (l .i) (l .r .len) (z .0 .taken)) (unmet-some f (l .r) (a .basis .sessions) (z .2 .result) (W .sessions) (z .2 .ensures) (z .3 .result) false (z .3 .ensures) (z .4 .left))))
-          (λ z. z .1 ∙ grow-turn (changesTo m (a .u)) (a .q) f (l .i) (l .r) false (l .inv .1 W) (ap (λ (b : Bool). b && someBelow (unmet f (l .r)) 256) (le-ltb (l .i) (l .r .len) (z .0 .left)))))
-          (c .if1 .came),
-    )
+loop-again c = (
+  search needs,
+  search needs,
+  let after-grow-at = c .before .before .before .before .before .before .before .before .before .before in
+      let after-loop = after-grow-at .before .before .before .before .before .before .before in
+      let a = after-loop .before .before .before .before .before .before .before .args in
+      λ W. after-grow-at .grow-at .ensures (foundOf (a .head) (a .order .now) (a .from .now) (a .via .now) (a .depth .now) (a .place .now)) W (after-loop .loop .inv .2 W),
+)
+
+same-length : tie.Need-same-length Inv-loop μ-loop
+same-length c = search needs
+
+same-length-2 : tie.Need-same-length-2 Inv-loop μ-loop
+same-length-2 c = search needs
+
+same-length-3 : tie.Need-same-length-3 Inv-loop μ-loop
+same-length-3 c = search needs
+
+same-length-4 : tie.Need-same-length-4 Inv-loop μ-loop
+same-length-4 c = search needs
+
+same-length-5 : tie.Need-same-length-5 Inv-loop μ-loop
+same-length-5 c = search needs
 
 returns : tie.Need-returns Inv-loop μ-loop
 returns c =
-    let a = c .before .before .before .before .args in
+    let a = c .before .before .before .before .before .before .before .before .args in
     let l = c .before .loop in
+    let m = modelBy (a .basis) (a .nodes .now) in
     let e : l .i ≡ 256 = omega arith in
-    λ W. l .inv .1 W ∙ ap (growTo (modelBy (a .basis) (a .nodes .now) .sessionValue) (changesTo (modelBy (a .basis) (a .nodes .now)) (a .u)) (a .q)) e
+    λ W. l .inv .2 W ∙ ap (growTo (m .sessionValue) (changesTo m (a .u)) (foundOf (a .head) (a .order .now) (a .from .now) (a .via .now) (a .depth .now) (a .place .now))) e
 
 pub grow-spec : {M : Type 1} → statement M
 grow-spec =
@@ -85,14 +75,13 @@ grow-spec =
     Inv-loop
     μ-loop
     loop-holds
-    minus-requires
-    is-none-requires
-    element-copy-out-changed-to
-    changed-to-requires
-    add-spread
-    cast-spread
-    spread-requires
+    grow-at-requires
     add-i
     loop-less
     loop-again
+    same-length
+    same-length-2
+    same-length-3
+    same-length-4
+    same-length-5
     returns)

@@ -1,0 +1,3 @@
+-- in reading order
+pub mod Answers  -- what each node says
+pub mod Depends  -- which nodes depend on a holder

@@ -1,0 +1,92 @@
+-- Laws of comparisons by the values of a field. In order: the sides of a comparison; a row where it is asked for; the rows of the values that a comparison holds of,
+-- one after another; operands with few values; the ways to compare.
+use mathlib.Core.Path.{_≡_, refl, sym, ap, ap₂, _∙_}
+use mathlib.Core.Bool.{Bool, true, false, _&&_, _||_, and-true, and-false, or-false}
+use mathlib.Core.List.{List}
+use Prim.Native.Nat.{ℕ, _+_, _*_, _/_, _%_, _^_, _<_}
+use native.Mathlib.Decide.{ℕ-discrete, decLt}
+use native.Mathlib.Nat.{zero-add, zero-mul, zero-div}
+use native.Mathlib.Omega.{arith}
+use borrow.Author.Tests.{lt-ltb, le-ltb, eq-eqb, ne-eqb}
+use lib.Dec.{ltb, eqb}
+use lib.ListN.{length}
+use Rattle.lanes.specs.Lanes.{laneOf, Lanes}
+use Rattle.lanes.proofs.Laws.{lanes-as, lanes-own, lanes-or}
+use Rattle.formulas.specs.Parts.{comparedBy}
+use Rattle.planes.specs.Word.{numberIn, comparedIn}
+use Rattle.planes.proofs.Numbers.{number-plain}
+use Rattle.bitsets.specs.Rows.{bitAt}
+use Rattle.leaves.specs.Side.{operandAt}
+use Rattle.leaves.specs.Values.{Hot, sided, Few, Way}
+use Rattle.leaves.specs.declared.side.Side.{Side}
+
+pub sided-second : (second : Bool) (op x m y n : ℕ) → second ≡ true → comparedBy op y n x m ≡ sided second op x m y n
+unfolding sided
+sided-second second op x m y n e = rw e refl
+
+pub sided-first : (second : Bool) (op x m y n : ℕ) → second ≡ false → comparedBy op x m y n ≡ sided second op x m y n
+unfolding sided
+sided-first second op x m y n e = rw e refl
+
+module _ (f : ℕ → Bool) (on : Bool) where
+  pub with-taken : (y r x : List ℕ) → on ≡ true → Lanes f y → length r ≡ 4 → Lanes (λ v. laneOf y v || laneOf r v) x → Lanes (λ v. on && f v || laneOf r v) x
+  with-taken y r x e Y l X = lanes-as _ _ x (lanes-or _ _ y r x Y (lanes-own r l) X) (λ v h. sym (ap (λ (b : Bool). b && f v || laneOf r v) e))
+
+  pub with-left : (r : List ℕ) → on ≡ false → length r ≡ 4 → Lanes (λ v. on && f v || laneOf r v) r
+  with-left r e l = lanes-as _ _ r (lanes-own r l) (λ v h. sym (ap (λ (b : Bool). b && f v || laneOf r v) e))
+
+-- g holds of a value up to x: of x itself, or of one below
+one-value : (g : ℕ → Bool) (f x : ℕ) → g x && eqb f x || (ltb f x && g f) ≡ ltb f (x + 1) && g f
+one-value g f x = go (decLt f x) (ℕ-discrete f x)
+  where
+    go : Dec (f < x) → Dec (f ≡ x) → g x && eqb f x || (ltb f x && g f) ≡ ltb f (x + 1) && g f
+    go (yes l) d = rw (lt-ltb f x l, lt-ltb f (x + 1) (omega arith), ne-eqb f x (λ z. omega arith), and-false (g x)) refl
+    go (no l) (yes e) = rw (le-ltb f x (omega arith), lt-ltb f (x + 1) (omega arith), eq-eqb f x e) (or-false (g x && true) ∙ and-true (g x) ∙ ap g (sym e))
+    go (no l) (no e) = rw (le-ltb f x (omega arith), le-ltb f (x + 1) (omega arith), ne-eqb f x e, and-false (g x)) refl
+
+module _ (F : ℕ → ℕ) (g : ℕ → Bool) (r : List ℕ) where
+  pub join-start : Lanes (λ v. false) r → Lanes (λ v. ltb (F v) 0 && g (F v)) r
+  join-start R = lanes-as _ _ r R (λ v h. sym (ap (λ (b : Bool). b && g (F v)) (le-ltb (F v) 0 (omega arith))))
+
+  pub join-more : (n x : ℕ) (on : Bool) (t z : List ℕ) → Hot F n t → x < n → on ≡ g x → Lanes (λ v. ltb (F v) x && g (F v)) r
+      → Lanes (λ v. on && bitAt t x v || laneOf r v) z → Lanes (λ v. ltb (F v) (x + 1) && g (F v)) z
+  join-more n x on t z H l e R Z =
+      lanes-as _ _ z Z (λ v h. ap₂ _||_ (ap₂ _&&_ e (H .each x v l h)) (R .each v h) ∙ one-value g (F v) x)
+
+  pub join-end : (n : ℕ) (t : List ℕ) → Hot F n t → Lanes (λ v. ltb (F v) n && g (F v)) r → Lanes (λ v. g (F v)) r
+  join-end n t H R = lanes-as _ _ r R (λ v h. ap (λ (b : Bool). b && g (F v)) (lt-ltb (F v) n (H .below v h)))
+
+-- operands of which x has few values
+module _ (x y : Side) (hot : List ℕ) (f : Few x y hot) (op i v : ℕ) where
+  number-few : numberIn (operandAt x i) v ≡ v / 2 ^ x .shift % 2 ^ x .bits
+  unfolding numberIn operandAt
+  number-few =
+      rw (f .lane, f .zero)
+      (ap (λ (q : ℕ). q * 2 ^ x .bits + v / 2 ^ x .shift % 2 ^ x .bits) (zero-div (2 ^ x .bits)) ∙ ap (λ (q : ℕ). q + v / 2 ^ x .shift % 2 ^ x .bits) (zero-mul (2 ^ x .bits))
+      ∙ zero-add (v / 2 ^ x .shift % 2 ^ x .bits))
+
+  number-other : numberIn (operandAt y i) v ≡ operandAt y i .number
+  number-other = number-plain (operandAt y i) v (f .plain i)
+
+  size-few : operandAt x i .size ≡ x .size
+  unfolding operandAt
+  size-few = refl
+
+  pub few-first : sided false op (v / 2 ^ x .shift % 2 ^ x .bits) (x .size) (operandAt y i .number) (operandAt y i .size) ≡ comparedIn op (operandAt x i) (operandAt y i) v
+  unfolding sided comparedIn
+  few-first = sym (rw (number-few, number-other, size-few) refl)
+
+  pub few-second : sided true op (v / 2 ^ x .shift % 2 ^ x .bits) (x .size) (operandAt y i .number) (operandAt y i .size) ≡ comparedIn op (operandAt y i) (operandAt x i) v
+  unfolding sided comparedIn
+  few-second = sym (rw (number-few, number-other, size-few) refl)
+
+-- the ways to compare
+module _ (x y : Side) (hot : List ℕ) where
+  pub way-first : Few x y hot → Way 1 x y hot
+  way-first f = record { first = λ e. f; second = λ e. absurd (omega arith) }
+
+  pub way-second : Few y x hot → Way 2 x y hot
+  way-second f = record { first = λ e. absurd (omega arith); second = λ e. f }
+
+  pub way-none : Way 0 x y hot
+  way-none = record { first = λ e. absurd (omega arith); second = λ e. absurd (omega arith) }

@@ -1,0 +1,183 @@
+// Comparisons by the values of a field of the lane's number: no operator is named here.
+ghost use mathlib.Core.Path.{_≡_};
+ghost use mathlib.Core.Bool.{true, false, not, _&&_, _||_};
+ghost use Prim.Native.Nat.{ℕ, _+_, _*_, _/_, _%_, _^_, _≤_, _<_};
+ghost use lib.ListN.{length};
+ghost use Rattle.lanes.specs.Lanes.{bitOf, laneOf, Lanes};
+ghost use Rattle.planes.specs.Word.{comparedIn};
+ghost use Rattle.bitsets.specs.Rows.{bitAt, Rows, put};
+ghost use Rattle.leaves.specs.Side.{operandAt};
+ghost use Rattle.leaves.specs.Values.{Hot, parted, sided, Way};
+use super::side::Side;
+use super::side::operand_at;
+use planes::wide::compare_all;
+
+// Bit k of the lanes' numbers.
+fn bit_row(k: usize) -> [u64; 4]
+    ensures { λ r. ⌜ Lanes (λ v. bitOf v k) r ⌝ }
+{
+    if 8 <= k {
+        return lanes::none();
+    }
+    let t: [u64; 32] = [
+        0xAAAA_AAAA_AAAA_AAAA,
+        0xAAAA_AAAA_AAAA_AAAA,
+        0xAAAA_AAAA_AAAA_AAAA,
+        0xAAAA_AAAA_AAAA_AAAA,
+        0xCCCC_CCCC_CCCC_CCCC,
+        0xCCCC_CCCC_CCCC_CCCC,
+        0xCCCC_CCCC_CCCC_CCCC,
+        0xCCCC_CCCC_CCCC_CCCC,
+        0xF0F0_F0F0_F0F0_F0F0,
+        0xF0F0_F0F0_F0F0_F0F0,
+        0xF0F0_F0F0_F0F0_F0F0,
+        0xF0F0_F0F0_F0F0_F0F0,
+        0xFF00_FF00_FF00_FF00,
+        0xFF00_FF00_FF00_FF00,
+        0xFF00_FF00_FF00_FF00,
+        0xFF00_FF00_FF00_FF00,
+        0xFFFF_0000_FFFF_0000,
+        0xFFFF_0000_FFFF_0000,
+        0xFFFF_0000_FFFF_0000,
+        0xFFFF_0000_FFFF_0000,
+        0xFFFF_FFFF_0000_0000,
+        0xFFFF_FFFF_0000_0000,
+        0xFFFF_FFFF_0000_0000,
+        0xFFFF_FFFF_0000_0000,
+        0,
+        0xFFFF_FFFF_FFFF_FFFF,
+        0,
+        0xFFFF_FFFF_FFFF_FFFF,
+        0,
+        0,
+        0xFFFF_FFFF_FFFF_FFFF,
+        0xFFFF_FFFF_FFFF_FFFF,
+    ];
+    bitsets::load(&t, k)
+}
+
+// The lanes of row z that are in p become row n + z, the others row z.
+fn part(hot: &mut [u64], n: usize, z: usize, p: [u64; 4])
+    requires { ⌜ (z < n) × (4 * (n + z) + 4 ≤ length (now hot)) ⌝ }
+    ensures { λ _. ⌜ Rows (put z (λ v. (bitAt (now (hot .entry)) z v && not (laneOf p v))) (put (n + z) (λ v. (bitAt (now (hot .entry)) z v && laneOf p v)) (bitAt (now (hot .entry))))) (now (hot .exit)) ⌝ }
+    ensures { λ _. ⌜ length (now (hot .exit)) ≡ length (now (hot .entry)) ⌝ }
+{
+    let r = bitsets::load(hot, z);
+    let inside = lanes::and(r, p);
+    let outside = lanes::minus(r, p);
+    bitsets::store(hot, n + z, inside);
+    bitsets::store(hot, z, outside);
+}
+
+// Each of the first n rows is parted so.
+fn part_all(hot: &mut [u64], n: usize, p: [u64; 4])
+    requires { ⌜ 8 * n ≤ length (now hot) ⌝ }
+    ensures { λ _. ⌜ Rows (parted n n (laneOf p) (bitAt (now (hot .entry)))) (now (hot .exit)) ⌝ }
+    ensures { λ _. ⌜ length (now (hot .exit)) ≡ length (now (hot .entry)) ⌝ }
+{
+    for z in 0..n {
+        part(hot, n, z, p);
+    }
+}
+
+// Row z becomes the lanes where the field of so many bits from bit `shift` on is z.
+fn value_rows(hot: &mut [u64], shift: u8, bits: u8)
+    requires { ⌜ (bits ≤ 4) × (length (now hot) ≡ 64) ⌝ }
+    ensures { λ _. ⌜ Hot (λ v. v / 2 ^ shift % 2 ^ bits) (2 ^ bits) (now (hot .exit)) ⌝ }
+    ensures { λ _. ⌜ length (now (hot .exit)) ≡ 64 ⌝ }
+{
+    bitsets::store(hot, 0, lanes::all());
+    for k in 0..bits as usize {
+        part_all(hot, 1 << k, bit_row(shift as usize + k));
+    }
+}
+
+// Whether x is a field of the lane's number with at most 16 values, and y is no field of it.
+fn few(x: Side, y: Side) -> bool
+    ensures { λ r. ⌜ (r ≡ true → (x .row ≡ false) × (x .bits ≤ 4) × (x .number ≡ 0) × ((i : ℕ) → operandAt y i .bits ≡ 0)) ⌝ }
+{
+    if x.row {
+        return false;
+    }
+    if x.bits == 0 {
+        return false;
+    }
+    if 4 < x.bits {
+        return false;
+    }
+    if x.number != 0 {
+        return false;
+    }
+    if y.row {
+        return true;
+    }
+    y.bits == 0
+}
+
+// How the operands are compared: 1 where the first has few values, 2 where the second has, and then their rows stand in `hot`; else 0.
+pub(super) fn prepare(hot: &mut [u64], x: Side, y: Side) -> u8
+    requires { ⌜ length (now hot) ≡ 64 ⌝ }
+    ensures { λ r. ⌜ Way r x y (now (hot .exit)) ⌝ }
+    ensures { λ _. ⌜ length (now (hot .exit)) ≡ 64 ⌝ }
+{
+    if few(x, y) {
+        value_rows(hot, x.shift, x.bits);
+        return 1;
+    }
+    if few(y, x) {
+        value_rows(hot, y.shift, y.bits);
+        return 2;
+    }
+    0
+}
+
+// What a comparison says of a value x of the lanes' field and one number y, whose lists have m and n values. The field is the first operand or the second.
+fn says(second: bool, op: u32, x: u64, m: u64, y: u64, n: u64) -> bool
+    ensures { λ r. ⌜ r ≡ sided second op x m y n ⌝ }
+{
+    if second {
+        return formulas::node::compare(op, y, n, x, m);
+    }
+    formulas::node::compare(op, x, m, y, n)
+}
+
+// The lanes of r, and those of row a where it is asked for.
+fn with_row(t: &[u64], a: usize, on: bool, r: [u64; 4]) -> [u64; 4]
+    requires { ⌜ 4 * a + 4 ≤ length (now t) ⌝ }
+    ensures { λ x. ⌜ Lanes (λ v. (on && bitAt (now (t .entry)) a v || laneOf r v)) x ⌝ }
+{
+    if on {
+        return lanes::or(bitsets::load(t, a), r);
+    }
+    r
+}
+
+// Where a comparison holds of the lanes' field and one number: by what it says of each of the field's values.
+fn joined(hot: &[u64], count: usize, second: bool, op: u32, m: u8, y: u8, n: u8) -> [u64; 4]
+    requires { ⌜ 4 * count ≤ length (now hot) ⌝ }
+    ensures { λ r. ⌜ ((F : ℕ → ℕ) → Hot F count (now (hot .entry)) → Lanes (λ v. sided second op (F v) m y n) r) ⌝ }
+{
+    let mut r = lanes::none();
+    for x in 0..count {
+        let on = says(second, op, x as u64, m as u64, y as u64, n as u64);
+        let t = with_row(hot, x, on, r);
+        r = t;
+    }
+    r
+}
+
+// What a comparison of two operands says in row i.
+pub(super) fn compared(hot: &[u64], way: u8, op: u32, x: Side, y: Side, i: usize) -> [u64; 4]
+    requires { ⌜ (i < 256) × (length (now hot) ≡ 64) × Way way x y (now hot) ⌝ }
+    ensures { λ r. ⌜ Lanes (comparedIn op (operandAt x i) (operandAt y i)) r ⌝ }
+{
+    let a = operand_at(x, i);
+    let b = operand_at(y, i);
+    if way == 1 {
+        return joined(hot, 1 << x.bits, false, op, x.size, b.number, b.size);
+    }
+    if way == 2 {
+        return joined(hot, 1 << y.bits, true, op, y.size, a.number, a.size);
+    }
+    compare_all(op, a, b)
+}

@@ -1,0 +1,2 @@
+-- in reading order
+pub mod Levels  -- a formula's nodes on the three boards

@@ -1,0 +1,2 @@
+-- in reading order
+pub mod Tables  -- the tables of a formula's comparisons

@@ -9,7 +9,7 @@ use lib.ListN.{getD}
 use Rattle.lanes.specs.Lanes.{laneOf}
 use Rattle.policy.specs.Nodes.{opOf, firstOf, secondOf}
 
--- values that agree in the bits of m have the same field: so many bits as `bits` says, from bit `shift` on
+-- values that agree in the bits of m have the same field of `bits` bits from bit `shift` on
 pub record Keeps (shift bits m : ℕ) : Type 0 where
   pub field : (v w : ℕ) → v < 256 → w < 256 → bitAnd v m ≡ bitAnd w m → v / 2 ^ shift % 2 ^ bits ≡ w / 2 ^ shift % 2 ^ bits
 

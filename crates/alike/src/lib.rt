@@ -12,7 +12,7 @@ use formulas::table::byte_of;
 use planes::class_of;
 use policy::Classes;
 
-// The bits of the field that has so many bits as `bits` says, from bit `shift` on.
+// The mask of a field: `bits` bits from bit `shift` on.
 fn field_mask(shift: u8, bits: u8) -> u64
     ensures { λ r. ⌜ Keeps shift bits r ⌝ }
 {

@@ -80,7 +80,7 @@ fn part_all(hot: &mut [u64], n: usize, p: [u64; 4])
     }
 }
 
-// Row z becomes the lanes where the field of so many bits from bit `shift` on is z.
+// Row z becomes the lanes where the field of `bits` bits from bit `shift` on is z.
 fn value_rows(hot: &mut [u64], shift: u8, bits: u8)
     requires { ⌜ (bits ≤ 4) × (length (now hot) ≡ 64) ⌝ }
     ensures { λ _. ⌜ Hot (λ v. v / 2 ^ shift % 2 ^ bits) (2 ^ bits) (now (hot .exit)) ⌝ }

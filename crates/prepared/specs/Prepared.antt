@@ -23,7 +23,7 @@ use Rattle.leaves.specs.Leaf.{leaf}
 use Rattle.prepared.specs.Level.{nodeStep, sameAs, Listed}
 use Rattle.prepared.specs.declared.Plan.{Plan}
 
--- where the table of node k begins, where each table has place for so many rows
+-- where the table of node k begins: each table has place for `room` rows
 unfoldable pub tableAt : ℕ → ℕ → ℕ
 tableAt room k = 193 + k * room
 

@@ -68,7 +68,7 @@ fn row_for(lane: u8, row: u8, outer: u8, onlane: bool, onrow: bool) -> u8
     if onrow { row } else { outer }
 }
 
-// How many rows it has, where so many values of the row holder and of the outer holder are told apart.
+// How many rows it has, by how many values of the row holder and of the outer holder are told apart.
 fn rows_for(rows: usize, outers: usize, onlane: bool, onrow: bool, onouter: bool) -> usize
     ensures { λ r. ⌜ ((c : Lists) (nodes : List ℕ) (L R O : ℕ) → rows ≡ roomOf c R → outers ≡ roomOf c O → r ≡ rowsFor c nodes L R O onlane onrow onouter) ⌝ }
 {

@@ -6,7 +6,7 @@ use Prim.Native.Nat.{ℕ}
 use Rattle.lanes.specs.Lanes.{Lanes}
 use Rattle.lanes.proofs.Laws.{lanes-as}
 
-pub and-false : (a : Bool) → a && false ≡ false
+and-false : (a : Bool) → a && false ≡ false
 and-false true = refl
 and-false false = refl
 

@@ -1,8 +1,7 @@
--- Laws of what a formula of rules says, and of a value put in. In order: the value of a user; a formula that is there, and one that is not;
--- what is swept.
-use mathlib.Core.Path.{_≡_, sym, ap, _∙_}
-use mathlib.Core.Bool.{Bool, false, _&&_}
-use mathlib.Core.List.{List, []}
+-- Laws of users and of formulas of rules. In order: the value of a user; a formula that is there, and one that is not.
+use mathlib.Core.Path.{_≡_, ap, _∙_}
+use mathlib.Core.Bool.{false}
+use mathlib.Core.List.{[]}
 use Prim.Native.Nat.{ℕ, _+_, _≤_, _<_}
 use native.Mathlib.Omega.{arith}
 use lib.ListN.{getD, List·getD-eq-default}
@@ -13,12 +12,7 @@ use Rattle.policy.specs.declared.Rules.{Rules}
 use Rattle.policy.proofs.Laws.{values-length, formulas-length}
 use Rattle.formulas.specs.Meaning.{said, holds}
 use Rattle.formulas.specs.declared.Holders.{Holders}
-use Rattle.lanes.specs.Lanes.{Lanes}
-use Rattle.lanes.proofs.Laws.{lanes-as}
-use Rattle.planes.specs.Put.{withValue}
 use Rattle.allowed.specs.Allowed.{says}
-use Rattle.allowed.specs.Sweep.{swept}
-use Rattle.allowed.proofs.LaneLaws.{and-false}
 
 module _ (v : Values) (u : ℕ) where
   pub value-at : u < v .count → getD (valuesOf v) u 0 ≡ getD (v .values) u 0
@@ -43,20 +37,3 @@ module _ (r : Rules) (f : ℕ) (h : Holders) where
   says-none l =
       ap (holds (listsOf (r .classes)) h)
       (List·getD-eq-default (formulasOf (r .nodes) (r .lengths) (4 + r .permissions)) [] {n = f} (omega (arith, formulas-length (r .nodes) (r .lengths) (4 + r .permissions))))
-
--- what is swept: no value where there is no such formula, and otherwise those asked about that formula f, by its nodes, is true of
-module _ (r : Rules) (f at : ℕ) (h : Holders) (among : ℕ → Bool) (x : List ℕ) where
-  pub swept-none : 4 + r .permissions ≤ f → Lanes (λ v. false) x → Lanes (swept (policyOf r) f at h among) x
-  unfolding swept
-  swept-none l e =
-      lanes-as (λ v. false) (swept (policyOf r) f at h among) x e
-      (λ v m. sym (ap (λ (t : Bool). among v && t) (says-none r f (withValue h at v) l) ∙ and-false (among v)))
-
-  pub swept-held : (n : ℕ) → f < 4 + r .permissions → n ≡ getD (r .lengths) f 0
-      → Lanes (λ v. (among v && holds (listsOf (r .classes)) (withValue h at v) (nodesOf (r .nodes) f n))) x → Lanes (swept (policyOf r) f at h among) x
-  unfolding swept
-  swept-held n l e k =
-      lanes-as _ (swept (policyOf r) f at h among) x k
-      (λ v m.
-      ap (λ (t : Bool). among v && t)
-      (ap (λ (z : ℕ). holds (listsOf (r .classes)) (withValue h at v) (nodesOf (r .nodes) f z)) e ∙ sym (says-at r f (withValue h at v) l)))

@@ -1,9 +1,9 @@
--- Laws of the model, for callers. In order: of rules in memory its counts and the values in the lists; of any policy the same, what each formula is
--- asked, and that listed values are bytes; policies with the same model: other starts, no list numbers, a basis and nodes.
-use mathlib.Core.Path.{_≡_, refl, ap}
+-- Laws of the model, for callers. In order: of rules in memory its counts, the values in the lists and those of users; of any policy the same, and what
+-- each formula is asked; policies with the same model: other starts, no list numbers, a basis and nodes.
+use mathlib.Core.Path.{_≡_, refl}
 use mathlib.Core.Bool.{Bool, true, false, cond}
 use mathlib.Core.List.{[]}
-use Prim.Native.Nat.{ℕ, _+_, _<_}
+use Prim.Native.Nat.{ℕ, _+_}
 use lib.Dec.{leb, eqb}
 use lib.ListN.{length, getD}
 use Rattle.policy.specs.Policy.{unlisted, Policy}
@@ -12,7 +12,7 @@ use Rattle.policy.specs.Rules.{attrsOf, listsOf, valuesOf, policyOf}
 use Rattle.policy.specs.declared.Rules.{Rules}
 use Rattle.policy.proofs.Laws.{values-length}
 use Rattle.lists.specs.Lists.{listed}
-use Rattle.lists.proofs.Laws.{listed-byte, listed-unlisted}
+use Rattle.lists.proofs.Laws.{listed-unlisted}
 use Rattle.formulas.specs.declared.Holders.{Holders}
 use Rattle.formulas.proofs.ListLaws.{holds-same}
 use Rattle.allowed.specs.Allowed.{says, opening, changing, making, modifying, accessing, userValue, modelOf}
@@ -36,12 +36,6 @@ module _ (r : Rules) where
   pub model-item-value : modelOf (policyOf r) .itemValue ≡ listed (attrsOf (r .classes .item))
   unfolding modelOf policyOf listsOf
   model-item-value = refl
-
-  pub model-session-at : (v : ℕ) → modelOf (policyOf r) .sessionValue v ≡ listed (attrsOf (r .classes .session)) v
-  model-session-at v = ap (λ (g : ℕ → Bool). g v) model-session-value
-
-  pub model-item-at : (o : ℕ) → modelOf (policyOf r) .itemValue o ≡ listed (attrsOf (r .classes .item)) o
-  model-item-at o = ap (λ (g : ℕ → Bool). g o) model-item-value
 
   pub model-user-value : (u : ℕ) → userValue (policyOf r) u ≡ getD (valuesOf (r .users)) u 0
   unfolding userValue policyOf
@@ -79,15 +73,6 @@ module _ (p : Policy) where
   pub model-may-access : (k v o : ℕ) → modelOf p .mayAccess k v o ≡ says p (4 + k) (accessing v o)
   unfolding modelOf
   model-may-access k v o = refl
-
-  -- values in the lists are bytes
-  pub model-session-byte : (v : ℕ) → modelOf p .sessionValue v ≡ true → v < 256
-  unfolding modelOf
-  model-session-byte v = listed-byte (p .lists .ofSession) v
-
-  pub model-item-byte : (o : ℕ) → modelOf p .itemValue o ≡ true → o < 256
-  unfolding modelOf
-  model-item-byte o = listed-byte (p .lists .ofItem) o
 
 -- what stands at the start makes no difference to what is allowed
 pub model-same : (p q : Policy) → p .head .permissions ≡ q .head .permissions → p .users ≡ q .users → p .lists ≡ q .lists → p .formulas ≡ q .formulas

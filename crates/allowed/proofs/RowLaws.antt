@@ -4,7 +4,6 @@ use mathlib.Core.Bool.{Bool, _&&_}
 use mathlib.Core.List.{List}
 use Prim.Native.Nat.{ℕ, _+_, _<_}
 use native.Mathlib.Omega.{arith}
-use lib.ListN.{length}
 use Rattle.lanes.specs.Lanes.{laneOf, Lanes}
 use Rattle.lanes.proofs.Laws.{lanes-as}
 use Rattle.policy.specs.Policy.{Lists}

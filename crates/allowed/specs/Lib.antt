@@ -4,4 +4,3 @@ pub mod Claims  -- what is proved of it
 pub mod Basis  -- what formulas are asked by, beside their nodes
 pub mod Scratch  -- what is lent to prepare formulas in
 pub mod Asked  -- the formulas prepared
-pub mod Sweep  -- private vocabulary: one formula, many values

@@ -1,21 +1,15 @@
-// What rules allow, asked for one value or for a set of values at once. The meaning is the model in specs/Allowed; crates above know
-// formulas only through it.
+// What rules allow, asked for one value, or of prepared formulas (rows). The meaning is the model in specs/Allowed; crates above know formulas only
+// through it.
 ghost use mathlib.Core.Path.{_≡_};
-ghost use mathlib.Core.Bool.{_&&_};
-ghost use Prim.Native.Nat.{ℕ};
-ghost use lib.Dec.{ltb};
-ghost use Rattle.lanes.specs.Lanes.{laneOf, Lanes};
 ghost use Rattle.policy.specs.Rules.{policyOf};
-ghost use Rattle.runs.specs.Edge.{accesses};
 ghost use Rattle.allowed.specs.Allowed.{modelOf};
-ghost use Rattle.allowed.specs.Basis.{BasisOf, modelBy};
+ghost use Rattle.allowed.specs.Basis.{BasisOf};
 
 mod formula;
 mod holders;
 pub mod rows;
 
 use formula::says;
-use formula::sweep;
 use holders::accessing;
 use holders::changing;
 use holders::making;
@@ -89,66 +83,4 @@ pub fn may_access(rules: Rules, p: u8, v: u8, o: u8) -> bool
     ensures { λ r. ⌜ r ≡ modelOf (policyOf rules) .mayAccess p v o ⌝ }
 {
     says(rules, 4 + p as usize, accessing(v, o))
-}
-
-// Of the values that are asked about, those that user u may open a session with.
-pub fn opened_with(basis: Basis, nodes: &[u32], u: u8, among: [u64; 4]) -> [u64; 4]
-    ensures { λ r. ⌜ Lanes (λ (v : ℕ). (laneOf among v && (ltb u (modelBy basis (now (nodes .entry)) .users) && modelBy basis (now (nodes .entry)) .mayOpen u v))) r ⌝ }
-{
-    if basis.users.count <= u {
-        return lanes::none();
-    }
-    sweep(
-        basis,
-        nodes,
-        0,
-        2,
-        opening(user_value(basis.users, u), 0),
-        among,
-    )
-}
-
-// Of the values that are asked about, those that user u may change a session with value v to.
-pub fn changed_to(basis: Basis, nodes: &[u32], u: u8, v: u8, among: [u64; 4]) -> [u64; 4]
-    ensures { λ r. ⌜ Lanes (λ (w : ℕ). (laneOf among w && modelBy basis (now (nodes .entry)) .mayChange u v w)) r ⌝ }
-{
-    sweep(
-        basis,
-        nodes,
-        1,
-        2,
-        changing(user_value(basis.users, u), v, 0),
-        among,
-    )
-}
-
-// Of the session values that are asked about, those that may make an item with value o.
-pub fn makers(basis: Basis, nodes: &[u32], o: u8, among: [u64; 4]) -> [u64; 4]
-    ensures { λ r. ⌜ Lanes (λ (v : ℕ). (laneOf among v && modelBy basis (now (nodes .entry)) .mayMake v o)) r ⌝ }
-{
-    sweep(basis, nodes, 2, 1, making(0, o), among)
-}
-
-// Of the session values that are asked about, those that may change an item from value o to value n.
-pub fn modifiers(basis: Basis, nodes: &[u32], o: u8, n: u8, among: [u64; 4]) -> [u64; 4]
-    ensures { λ r. ⌜ Lanes (λ (v : ℕ). (laneOf among v && modelBy basis (now (nodes .entry)) .mayModify v o n)) r ⌝ }
-{
-    sweep(basis, nodes, 3, 1, modifying(0, o, n), among)
-}
-
-// Of the values that are asked about, those that a session with value v may change an item with value o to.
-pub fn modified_to(basis: Basis, nodes: &[u32], v: u8, o: u8, among: [u64; 4]) -> [u64; 4]
-    ensures { λ r. ⌜ Lanes (λ (n : ℕ). (laneOf among n && modelBy basis (now (nodes .entry)) .mayModify v o n)) r ⌝ }
-{
-    sweep(basis, nodes, 3, 4, modifying(v, o, 0), among)
-}
-
-// Of the session values that are asked about, those that have permission p on an item with value o.
-pub fn accessors(basis: Basis, nodes: &[u32], p: u8, o: u8, among: [u64; 4]) -> [u64; 4]
-    ensures { λ r. ⌜ Lanes (λ (v : ℕ). (laneOf among v && accesses (modelBy basis (now (nodes .entry))) p v o)) r ⌝ }
-{
-    if basis.permissions <= p {
-        return lanes::none();
-    }
-    sweep(basis, nodes, 4 + p as usize, 1, accessing(0, o), among)
 }

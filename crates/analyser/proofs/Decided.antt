@@ -40,6 +40,10 @@ module _ (r : Rules) (users : List Found) (q : Question) where
   unfolding leakValue
   leak-value = refl
 
+-- the value of a hit, where there is one
+pub value-there : (place value x : ℕ) → place < 256 → value ≡ cond (ltb place 256) x 256 → value ≡ x
+value-there place value x h e = e ∙ ap (λ (b : Bool). cond b x 256) (lt-ltb place 256 h)
+
 module _ (r : Rules) (users : List Found) (q : Question) (helpers : List ℕ) (items own : Found) (who : List ℕ) (place : ℕ)
     (H : Lanes (anyHas users) helpers) (I : items ≡ itemFound r (laneOf helpers) q) (O : own ≡ sessionFound r q)
     (W : Lanes (whoFound users (laneOf helpers) own q) who) (P : place ≡ hitPlace (modelOf (policyOf r)) (q .permission) (laneOf who) items) where

@@ -23,6 +23,8 @@ use Rattle.verdict.specs.Meaning.{Counts}
 use Rattle.verdict.specs.Verdict.{pairs, leaks, values}
 use Rattle.verdict.proofs.Theorems.{verdict-is-computed, pairs-are-counted, values-are-counted}
 use Rattle.allowed.specs.Allowed.{modelOf}
+use Rattle.allowed.specs.Basis.{BasisOf}
+use Rattle.allowed.specs.declared.Basis.{Basis}
 use Rattle.cells.specs.Leak.{IsLeak}
 use Rattle.live.proofs.Laws.{numbers-are}
 use Rattle.steps.proofs.Files.{file-sound}
@@ -55,6 +57,12 @@ use Rattle.analyser.proofs.LeakMeans.{all-found-agree, all-brought, pla
 -- the rows that are reckoned from the widths are those that a leak may need
 pub rowsFor-needed : (r : Rules) → Sound (policyOf r) → rowsFor (width (attrsOf (r .classes .session))) (width (attrsOf (r .classes .item))) ≡ rowsNeeded (policyOf r)
 rowsFor-needed r sound = rowsFor-is r sound
+
+-- the permission that is asked about is there
+pub permission-there : (r : Rules) (b : Basis) (question : List ℕ) (q : Question) → BasisOf r b → asks (policyOf r) question ≡ true → q ≡ partsOf question
+    → q .permission < b .permissions
+unfolding policyOf
+permission-there r b question q B t e = omega (arith, asks-something (policyOf r) question t .permission, ap (λ (x : Question). x .permission) e, B .permissions)
 
 -- a file is read as one policy
 pub rules-same : {a : Read} {p p′ : Policy} → a ≡ rules p → a ≡ rules p′ → p ≡ p′

@@ -1,9 +1,13 @@
 // The analyser: safe or leak, for runs of any length.
 ghost use mathlib.Core.Path.{_≡_};
+ghost use mathlib.Core.List.{List};
 ghost use Prim.Native.Nat.{ℕ, _^_, _≤_, _<_};
+ghost use lib.ListN.{length};
 ghost use Rattle.policy.specs.Policy.{width};
-ghost use Rattle.policy.specs.Rules.{attrsOf};
+ghost use Rattle.policy.specs.Rules.{attrsOf, policyOf};
+ghost use Rattle.rules.specs.Answers.{reading, rules as read};
 ghost use Rattle.allowed.specs.Basis.{BasisOf};
+ghost use Rattle.allowed.specs.Scratch.{Scratch};
 ghost use Rattle.analyser.specs.Told.{toldOf};
 ghost use Rattle.user_searches.specs.Found.{userFound};
 ghost use Rattle.analyser.specs.Decide.{rowsFor, startsFound, DecidedBy};
@@ -74,6 +78,17 @@ fn rows_needed(rules: Rules) -> usize
     n + k * (n + 1) + 1
 }
 
+// As many bits as each class has, or more.
+fn widest(rules: Rules) -> usize
+    ensures { λ r. ⌜ (width (attrsOf (rules .classes .user)) ≤ r) × (width (attrsOf (rules .classes .session)) ≤ r) × (width (attrsOf (rules .classes .item)) ≤ r) ⌝ }
+{
+    let u = class_width(rules.classes.user);
+    let s = class_width(rules.classes.session);
+    let o = class_width(rules.classes.item);
+    let m = if u < s { s } else { u };
+    if m < o { o } else { m }
+}
+
 // Whether the starting sessions could have been brought about by their users, whose sessions' values were searched.
 fn starts_brought(rules: Rules, users: [Found; 16]) -> bool
     ensures { λ r. ⌜ r ≡ startsFound rules users ⌝ }
@@ -81,20 +96,32 @@ fn starts_brought(rules: Rules, users: [Found; 16]) -> bool
     user_searches::all_brought(users, rules.sessions)
 }
 
-// Decides a question that is good, of rules whose starting sessions could have been brought about.
-fn decide(rules: Rules, users: [Found; 16], q: Question, rows: &mut [u64], basis: Basis) -> Answer
+// Decides a question that is good, of rules whose starting sessions could have been brought about. Formulas are prepared in `area`
+// and `steps`.
+fn decide(
+    rules: Rules,
+    users: [Found; 16],
+    q: Question,
+    rows: &mut [u64],
+    basis: Basis,
+    area: &mut [u64],
+    steps: &mut [u64],
+) -> Answer
     requires { ⌜ ((u : ℕ) → u < 16 → userFound users u .len ≤ 256) ⌝ }
     requires { ⌜ BasisOf rules basis ⌝ }
+    requires { ⌜ Scratch basis (now steps) (now area) ⌝ }
+    requires { ⌜ q .permission < basis .permissions ⌝ }
     ensures { λ r. ⌜ DecidedBy rules users q (now (rows .entry)) (now (rows .exit)) r ⌝ }
 {
     let asked = about::asked_user(q);
     let helpers = user_searches::helpers(users);
-    let items = about::item_values(rules, helpers, q, basis);
-    let own = about::session_values(rules, q, basis);
+    let items = about::item_values(rules, helpers, q, basis, area, steps);
+    let own = about::session_values(rules, q, basis, area, steps);
     let who = about::who_values(users, helpers, own, q);
     let pairs = user_searches::count_pairs(users);
     let values = items.len;
-    let place = hit::hit_place(rules, q.permission, who, items, basis);
+    let hit = hit::first_hit(rules, q.permission, who, items, basis, area, steps);
+    let place = hit.place;
     if 256 <= place {
         return Answer {
             verdict: Verdict::Safe,
@@ -103,7 +130,7 @@ fn decide(rules: Rules, users: [Found; 16], q: Question, rows: &mut [u64], basis
             rows: 0,
         };
     }
-    let value = hit::hit_value(rules, q.permission, who, items, place, basis);
+    let value = hit.value;
     let by = user_searches::name_users(users, asked);
     let pen = aim::first_pen(rules.sessions, asked);
     let end = write_leak(
@@ -124,6 +151,41 @@ fn decide(rules: Rules, users: [Found; 16], q: Question, rows: &mut [u64], basis
     }
 }
 
+// Answers a question of a file that was read, by the first of 9, 10, 11, or decides it. Formulas are prepared in `area`.
+fn answer_in(
+    file: &[u8],
+    rules: Rules,
+    question: &[u8],
+    rows: &mut [u64],
+    area: &mut [u64],
+) -> Answer
+    requires { ⌜ reading (now file) ≡ read (policyOf rules) ⌝ }
+    requires { ⌜ ((b : Basis) (steps : List ℕ) → BasisOf rules b → 192 ≤ length steps → Scratch b steps (now area)) ⌝ }
+    ensures { λ r. ⌜ Means (now (file .entry)) (now (question .entry)) (now (rows .entry)) (now (rows .exit)) (toldOf (r .verdict) (r .pairs) (r .values)) (r .rows) ⌝ }
+{
+    let basis = basis_of(rules);
+    let mut steps = [0u64; 192];
+    let users = user_searches::search_users(rules, basis, area, &mut steps);
+    if !starts_brought(rules, users) {
+        return refused(9);
+    }
+    if !asks(rules, question) {
+        return refused(10);
+    }
+    if rows.len() < rows_needed(rules) {
+        return refused(11);
+    }
+    decide(
+        rules,
+        users,
+        Question::of(question),
+        rows,
+        basis,
+        area,
+        &mut steps,
+    )
+}
+
 // Answers a question of a file: refused by the first of the file's number, 9, 10, 11, and then counts and rows are 0; safe exactly when no run
 // of any length grants what is asked; or a leak, whose rows fill the front of `rows`. Unless it is a leak `rows` is as it was.
 pub fn analyse(file: &[u8], question: &[u8], rows: &mut [u64]) -> Answer
@@ -138,16 +200,15 @@ pub fn analyse(file: &[u8], question: &[u8], rows: &mut [u64]) -> Answer
         }
         Reading::Accepted => {}
     }
-    let basis = basis_of(rules);
-    let users = user_searches::search_users(rules, basis);
-    if !starts_brought(rules, users) {
-        return refused(9);
+    let w = widest(rules);
+    if w <= 2 {
+        let mut area = [0u64; 1796];
+        return answer_in(file, rules, question, rows, &mut area);
     }
-    if !asks(rules, question) {
-        return refused(10);
+    if w <= 5 {
+        let mut area = [0u64; 8964];
+        return answer_in(file, rules, question, rows, &mut area);
     }
-    if rows.len() < rows_needed(rules) {
-        return refused(11);
-    }
-    decide(rules, users, Question::of(question), rows, basis)
+    let mut area = [0u64; 66308];
+    answer_in(file, rules, question, rows, &mut area)
 }

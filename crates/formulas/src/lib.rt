@@ -4,7 +4,7 @@ ghost use Prim.Native.Nat.{_≤_};
 ghost use Rattle.bits.specs.Packed.{tab};
 ghost use Rattle.policy.specs.Rules.{attrsOf, listsOf, nodesOf};
 ghost use Rattle.formulas.specs.Meaning.{holds as holdsOf};
-ghost use Rattle.formulas.specs.Value.{operand, sizeOfOperand, shiftIn, bitsIn};
+ghost use Rattle.formulas.specs.Value.{shiftIn, bitsIn};
 ghost use Rattle.formulas.specs.Parts.{Said};
 
 pub mod node;
@@ -22,27 +22,10 @@ pub struct Holders {
     pub newitem: u8,
 }
 
-// The number that each of the 256 operands stands for, and the size of its list.
-pub struct Operands {
-    pub values: [u8; 256],
-    pub sizes: [u8; 256],
-}
-
 // Where the value of each operand of one holder begins in the holder's packed value, and how many bits it has there.
 pub struct Fields {
     pub shifts: [u8; 256],
     pub bits: [u8; 256],
-}
-
-// What all operands stand for.
-pub fn operands_of(classes: Classes, holders: Holders) -> Operands
-    ensures { λ r. ⌜ r .values ≡ tab (operand (listsOf classes) holders) 0 256 ⌝ }
-    ensures { λ r. ⌜ r .sizes ≡ tab (sizeOfOperand (listsOf classes)) 0 256 ⌝ }
-{
-    let mut values: [u8; 256] = [0; 256];
-    let mut sizes: [u8; 256] = [0; 256];
-    table::fill_all(&mut values, &mut sizes, classes, holders);
-    Operands { values, sizes }
 }
 
 // Where the operands of holder h lie, which has the attributes of the class. Those of other holders lie nowhere.

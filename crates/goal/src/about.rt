@@ -5,19 +5,20 @@ ghost use lib.Dec.{eqb};
 ghost use lib.ListN.{getD};
 ghost use Rattle.lanes.specs.Lanes.{laneOf, Lanes};
 ghost use Rattle.allowed.specs.Basis.{BasisOf};
+ghost use Rattle.allowed.specs.Scratch.{Scratch};
 ghost use Rattle.goal.specs.Asked.{itemFound, sessionFound, whoFound, aimOf};
 use allowed::Basis;
+use item_search::any_item;
+use item_search::one_item;
 use leak::Aim;
 use policy::Rules;
 use policy::Sessions;
 use policy::Values;
 use policy::shape::byte_at;
 use replay::question::Question;
-use search::items::any_item;
-use search::items::one_item;
 use search::queue::Found;
 use search::queue::nothing;
-use search::sessions::own_values;
+use session_search::own_values;
 
 // Value k, or 0 past the end.
 fn value_of(items: Values, k: usize) -> u8
@@ -51,26 +52,43 @@ fn seen_of(q: Found) -> [u64; 4]
     seen
 }
 
-// The search of the values of the item that is asked about, or of any.
-pub fn item_values(rules: Rules, helpers: [u64; 4], q: Question, basis: Basis) -> Found
+// The search of the values of the item that is asked about, or of any. Formulas are prepared in `area` and `steps`.
+pub fn item_values(
+    rules: Rules,
+    helpers: [u64; 4],
+    q: Question,
+    basis: Basis,
+    area: &mut [u64],
+    steps: &mut [u64],
+) -> Found
     requires { ⌜ BasisOf rules basis ⌝ }
+    requires { ⌜ Scratch basis (now steps) (now area) ⌝ }
     ensures { λ r. ⌜ r ≡ itemFound rules (laneOf helpers) q ⌝ }
 {
     if q.itemkind == Question::ITEM {
         return one_item(
             basis,
             &rules.nodes,
+            area,
+            steps,
             helpers,
             q.item,
             value_of(rules.items, q.item as usize),
         );
     }
-    any_item(basis, &rules.nodes, helpers, rules.items)
+    any_item(basis, &rules.nodes, area, steps, helpers, rules.items)
 }
 
-// The search of the values of the session that is asked about, or none.
-pub fn session_values(rules: Rules, q: Question, basis: Basis) -> Found
+// The search of the values of the session that is asked about, or none. Formulas are prepared in `area` and `steps`.
+pub fn session_values(
+    rules: Rules,
+    q: Question,
+    basis: Basis,
+    area: &mut [u64],
+    steps: &mut [u64],
+) -> Found
     requires { ⌜ BasisOf rules basis ⌝ }
+    requires { ⌜ Scratch basis (now steps) (now area) ⌝ }
     ensures { λ r. ⌜ r ≡ sessionFound rules q ⌝ }
 {
     if q.whokind == Question::SESSION {
@@ -78,6 +96,8 @@ pub fn session_values(rules: Rules, q: Question, basis: Basis) -> Found
         return own_values(
             basis,
             &rules.nodes,
+            area,
+            steps,
             owner_of(rules.sessions, k),
             held_of(rules.sessions, k),
         );

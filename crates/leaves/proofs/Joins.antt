@@ -1,9 +1,9 @@
 -- Laws of comparisons by the values of a field. In order: the sides of a comparison; a row where it is asked for; the rows of the values that a comparison holds of,
--- one after another; operands with few values; the ways to compare.
+-- one after another; fields of the lane's number, and operands with few values; lane by lane; the ways to compare.
 use mathlib.Core.Path.{_≡_, refl, sym, ap, ap₂, _∙_}
 use mathlib.Core.Bool.{Bool, true, false, _&&_, _||_, and-true, and-false, or-false}
 use mathlib.Core.List.{List}
-use Prim.Native.Nat.{ℕ, _+_, _*_, _/_, _%_, _^_, _<_}
+use Prim.Native.Nat.{ℕ, _+_, _*_, _/_, _%_, _^_, _≤_, _<_}
 use native.Mathlib.Decide.{ℕ-discrete, decLt}
 use native.Mathlib.Nat.{zero-add, zero-mul, zero-div}
 use native.Mathlib.Omega.{arith}
@@ -17,7 +17,7 @@ use Rattle.planes.specs.Word.{numberIn, comparedIn}
 use Rattle.planes.proofs.Numbers.{number-plain}
 use Rattle.bitsets.specs.Rows.{bitAt}
 use Rattle.leaves.specs.Side.{operandAt}
-use Rattle.leaves.specs.Values.{Hot, sided, Few, Way}
+use Rattle.leaves.specs.Values.{Hot, sided, LaneField, Few, Way}
 use Rattle.leaves.specs.declared.side.Side.{Side}
 
 pub sided-second : (second : Bool) (op x m y n : ℕ) → second ≡ true → comparedBy op y n x m ≡ sided second op x m y n
@@ -56,37 +56,74 @@ module _ (F : ℕ → ℕ) (g : ℕ → Bool) (r : List ℕ) where
   pub join-end : (n : ℕ) (t : List ℕ) → Hot F n t → Lanes (λ v. ltb (F v) n && g (F v)) r → Lanes (λ v. g (F v)) r
   join-end n t H R = lanes-as _ _ r R (λ v h. ap (λ (b : Bool). b && g (F v)) (lt-ltb (F v) n (H .below v h)))
 
--- operands of which x has few values
-module _ (x y : Side) (hot : List ℕ) (f : Few x y hot) (op i v : ℕ) where
-  number-few : numberIn (operandAt x i) v ≡ v / 2 ^ x .shift % 2 ^ x .bits
+-- a field of the lane's number
+module _ (x : Side) (f : LaneField x) (i v : ℕ) where
+  number-field : numberIn (operandAt x i) v ≡ v / 2 ^ x .shift % 2 ^ x .bits
   unfolding numberIn operandAt
-  number-few =
+  number-field =
       rw (f .lane, f .zero)
       (ap (λ (q : ℕ). q * 2 ^ x .bits + v / 2 ^ x .shift % 2 ^ x .bits) (zero-div (2 ^ x .bits)) ∙ ap (λ (q : ℕ). q + v / 2 ^ x .shift % 2 ^ x .bits) (zero-mul (2 ^ x .bits))
       ∙ zero-add (v / 2 ^ x .shift % 2 ^ x .bits))
 
+  size-field : operandAt x i .size ≡ x .size
+  unfolding operandAt
+  size-field = refl
+
+-- operands of which x has few values
+module _ (x y : Side) (hot : List ℕ) (f : Few x y hot) (op i v : ℕ) where
   number-other : numberIn (operandAt y i) v ≡ operandAt y i .number
   number-other = number-plain (operandAt y i) v (f .plain i)
 
-  size-few : operandAt x i .size ≡ x .size
-  unfolding operandAt
-  size-few = refl
-
   pub few-first : sided false op (v / 2 ^ x .shift % 2 ^ x .bits) (x .size) (operandAt y i .number) (operandAt y i .size) ≡ comparedIn op (operandAt x i) (operandAt y i) v
   unfolding sided comparedIn
-  few-first = sym (rw (number-few, number-other, size-few) refl)
+  few-first = sym (rw (number-field x (f .field) i v, number-other, size-field x (f .field) i v) refl)
 
   pub few-second : sided true op (v / 2 ^ x .shift % 2 ^ x .bits) (x .size) (operandAt y i .number) (operandAt y i .size) ≡ comparedIn op (operandAt y i) (operandAt x i) v
   unfolding sided comparedIn
-  few-second = sym (rw (number-few, number-other, size-few) refl)
+  few-second = sym (rw (number-field x (f .field) i v, number-other, size-field x (f .field) i v) refl)
+
+-- operands that are both fields of the lane's number
+pub both-fields : (x y : Side) → LaneField x → LaneField y → (op i v : ℕ)
+    → comparedBy op (v / 2 ^ x .shift % 2 ^ x .bits) (x .size) (v / 2 ^ y .shift % 2 ^ y .bits) (y .size) ≡ comparedIn op (operandAt x i) (operandAt y i) v
+unfolding comparedIn
+both-fields x y f g op i v = sym (rw (number-field x f i v, number-field y g i v, size-field x f i v, size-field y g i v) refl)
+
+-- lane v where it is asked for
+module _ (on : Bool) (v : ℕ) where
+  pub lane-taken : (r x : List ℕ) → on ≡ true → Lanes (λ w. laneOf r w || eqb w v) x → Lanes (λ w. laneOf r w || (eqb w v && on)) x
+  lane-taken r x e X = lanes-as _ _ x X (λ w h. ap (λ (b : Bool). laneOf r w || b) (sym (ap (λ (b : Bool). eqb w v && b) e ∙ and-true (eqb w v))))
+
+  pub lane-left : (r : List ℕ) → on ≡ false → length r ≡ 4 → Lanes (λ w. laneOf r w || (eqb w v && on)) r
+  lane-left r e l =
+      lanes-as _ _ r (lanes-own r l)
+      (λ w h. sym (ap (λ (b : Bool). laneOf r w || b) (ap (λ (b : Bool). eqb w v && b) e ∙ and-false (eqb w v)) ∙ or-false (laneOf r w)))
+
+-- what f says of the lanes below v, one lane after another
+module _ (f : ℕ → Bool) (r : List ℕ) where
+  pub below-start : Lanes (λ w. false) r → Lanes (λ w. ltb w 0 && f w) r
+  below-start R = lanes-as _ _ r R (λ w h. sym (ap (λ (b : Bool). b && f w) (le-ltb w 0 (omega arith))))
+
+  pub below-more : (v : ℕ) (on : Bool) (z : List ℕ) → on ≡ f v → Lanes (λ w. ltb w v && f w) r → Lanes (λ w. laneOf r w || (eqb w v && on)) z → Lanes (λ w. ltb w (v + 1) && f w) z
+  below-more v on z e R Z = lanes-as _ _ z Z (λ w h. ap₂ _||_ (R .each w h) (ap (λ (b : Bool). eqb w v && b) e) ∙ go w (decLt w v) (ℕ-discrete w v))
+    where
+      go : (w : ℕ) → Dec (w < v) → Dec (w ≡ v) → ltb w v && f w || (eqb w v && f v) ≡ ltb w (v + 1) && f w
+      go w (yes l) d = rw (lt-ltb w v l, lt-ltb w (v + 1) (omega arith), ne-eqb w v (λ z. omega arith)) (or-false (f w))
+      go w (no l) (yes e) = rw (le-ltb w v (omega arith), lt-ltb w (v + 1) (omega arith), eq-eqb w v e) (ap f (sym e))
+      go w (no l) (no e) = rw (le-ltb w v (omega arith), le-ltb w (v + 1) (omega arith), ne-eqb w v e) refl
+
+  pub below-end : (n : ℕ) → 256 ≤ n → Lanes (λ w. ltb w n && f w) r → Lanes f r
+  below-end n l R = lanes-as _ _ r R (λ w h. ap (λ (b : Bool). b && f w) (lt-ltb w n (omega arith)))
 
 -- the ways to compare
 module _ (x y : Side) (hot : List ℕ) where
   pub way-first : Few x y hot → Way 1 x y hot
-  way-first f = record { first = λ e. f; second = λ e. absurd (omega arith) }
+  way-first f = record { first = λ e. f; second = λ e. absurd (omega arith); both = λ e. absurd (omega arith) }
 
   pub way-second : Few y x hot → Way 2 x y hot
-  way-second f = record { first = λ e. absurd (omega arith); second = λ e. f }
+  way-second f = record { first = λ e. absurd (omega arith); second = λ e. f; both = λ e. absurd (omega arith) }
+
+  pub way-both : LaneField x × LaneField y → Way 3 x y hot
+  way-both f = record { first = λ e. absurd (omega arith); second = λ e. absurd (omega arith); both = λ e. f }
 
   pub way-none : Way 0 x y hot
-  way-none = record { first = λ e. absurd (omega arith); second = λ e. absurd (omega arith) }
+  way-none = record { first = λ e. absurd (omega arith); second = λ e. absurd (omega arith); both = λ e. absurd (omega arith) }

@@ -23,15 +23,20 @@ parted n z P A a v = cond (ltb a z) (A a v && not (P v)) (cond (leb n a && ltb a
 unfoldable pub sided : Bool → ℕ → ℕ → ℕ → ℕ → ℕ → Bool
 sided second op x m y n = cond second (comparedBy op y n x m) (comparedBy op x m y n)
 
--- x is a field of the lane's number with few values, whose rows stand in hot, and y is no field of it
-pub record Few (x y : Side) (hot : List ℕ) : Type 0 where
+-- x is a field of the lane's number
+pub record LaneField (x : Side) : Type 0 where
   pub lane : x .row ≡ false
-  pub bits : x .bits ≤ 4
   pub zero : x .number ≡ 0
+
+-- x is one with few values, whose rows stand in hot, and y is none
+pub record Few (x y : Side) (hot : List ℕ) : Type 0 where
+  pub field : LaneField x
+  pub bits : x .bits ≤ 4
   pub plain : (i : ℕ) → operandAt y i .bits ≡ 0
   pub rows : Hot (λ v. v / 2 ^ x .shift % 2 ^ x .bits) (2 ^ x .bits) hot
 
--- way 1: the first operand has few values; way 2: the second has
+-- way 1: the first operand has few values; way 2: the second has; way 3: both are fields of the lane's number
 pub record Way (way : ℕ) (x y : Side) (hot : List ℕ) : Type 0 where
   pub first : way ≡ 1 → Few x y hot
   pub second : way ≡ 2 → Few y x hot
+  pub both : way ≡ 3 → LaneField x × LaneField y

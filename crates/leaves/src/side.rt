@@ -111,7 +111,7 @@ pub(super) fn side_of(classes: Classes, lane: u8, row: u8, x: u8) -> Side
 }
 
 // So many bits of v as `bits` says, from bit `shift` on.
-fn part_of(v: usize, shift: u8, bits: u8) -> u8
+pub(super) fn part_of(v: usize, shift: u8, bits: u8) -> u8
     requires { ⌜ v < 256 ⌝ }
     ensures { λ r. ⌜ r ≡ v / 2 ^ shift % 2 ^ bits ⌝ }
 {

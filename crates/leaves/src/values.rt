@@ -2,14 +2,17 @@
 ghost use mathlib.Core.Path.{_≡_};
 ghost use mathlib.Core.Bool.{true, false, not, _&&_, _||_};
 ghost use Prim.Native.Nat.{ℕ, _+_, _*_, _/_, _%_, _^_, _≤_, _<_};
+ghost use lib.Dec.{eqb};
 ghost use lib.ListN.{length};
 ghost use Rattle.lanes.specs.Lanes.{bitOf, laneOf, Lanes};
+ghost use Rattle.formulas.specs.Parts.{comparedBy};
 ghost use Rattle.planes.specs.Word.{comparedIn};
 ghost use Rattle.bitsets.specs.Rows.{bitAt, Rows, put};
 ghost use Rattle.leaves.specs.Side.{operandAt};
-ghost use Rattle.leaves.specs.Values.{Hot, parted, sided, Way};
+ghost use Rattle.leaves.specs.Values.{Hot, LaneField, parted, sided, Way};
 use super::side::Side;
 use super::side::operand_at;
+use super::side::part_of;
 use planes::wide::compare_all;
 
 // Bit k of the lanes' numbers.
@@ -94,7 +97,7 @@ fn value_rows(hot: &mut [u64], shift: u8, bits: u8)
 
 // Whether x is a field of the lane's number with at most 16 values, and y is no field of it.
 fn few(x: Side, y: Side) -> bool
-    ensures { λ r. ⌜ (r ≡ true → (x .row ≡ false) × (x .bits ≤ 4) × (x .number ≡ 0) × ((i : ℕ) → operandAt y i .bits ≡ 0)) ⌝ }
+    ensures { λ r. ⌜ (r ≡ true → LaneField x × (x .bits ≤ 4) × ((i : ℕ) → operandAt y i .bits ≡ 0)) ⌝ }
 {
     if x.row {
         return false;
@@ -114,7 +117,30 @@ fn few(x: Side, y: Side) -> bool
     y.bits == 0
 }
 
-// How the operands are compared: 1 where the first has few values, 2 where the second has, and then their rows stand in `hot`; else 0.
+// Whether both are fields of the lane's number.
+fn both(x: Side, y: Side) -> bool
+    ensures { λ r. ⌜ (r ≡ true → LaneField x × LaneField y) ⌝ }
+{
+    if x.row {
+        return false;
+    }
+    if y.row {
+        return false;
+    }
+    if x.bits == 0 {
+        return false;
+    }
+    if y.bits == 0 {
+        return false;
+    }
+    if x.number != 0 {
+        return false;
+    }
+    y.number == 0
+}
+
+// How the operands are compared: 1 where the first has few values, 2 where the second has, and then their rows stand in `hot`; 3 where both are fields of
+// the lane's number; else 0.
 pub(super) fn prepare(hot: &mut [u64], x: Side, y: Side) -> u8
     requires { ⌜ length (now hot) ≡ 64 ⌝ }
     ensures { λ r. ⌜ Way r x y (now (hot .exit)) ⌝ }
@@ -128,7 +154,7 @@ pub(super) fn prepare(hot: &mut [u64], x: Side, y: Side) -> u8
         value_rows(hot, y.shift, y.bits);
         return 2;
     }
-    0
+    if both(x, y) { 3 } else { 0 }
 }
 
 // What a comparison says of a value x of the lanes' field and one number y, whose lists have m and n values. The field is the first operand or the second.
@@ -166,6 +192,32 @@ fn joined(hot: &[u64], count: usize, second: bool, op: u32, m: u8, y: u8, n: u8)
     r
 }
 
+// The lanes of r, and lane v where it is asked for.
+fn with_lane(r: [u64; 4], v: usize, on: bool) -> [u64; 4]
+    ensures { λ x. ⌜ Lanes (λ w. (laneOf r w || (eqb w v && on))) x ⌝ }
+{
+    if on {
+        return lanes::add(r, v);
+    }
+    r
+}
+
+// Where a comparison of two fields of the lane's number holds, lane by lane.
+fn lane_by_lane(op: u32, x: Side, y: Side) -> [u64; 4]
+    ensures { λ r. ⌜ Lanes (λ v. comparedBy op (v / 2 ^ x .shift % 2 ^ x .bits) (x .size) (v / 2 ^ y .shift % 2 ^ y .bits) (y .size)) r ⌝ }
+{
+    let m = x.size as u64;
+    let n = y.size as u64;
+    let mut r = lanes::none();
+    for v in 0..256 {
+        let a = part_of(v, x.shift, x.bits) as u64;
+        let b = part_of(v, y.shift, y.bits) as u64;
+        let t = with_lane(r, v, formulas::node::compare(op, a, m, b, n));
+        r = t;
+    }
+    r
+}
+
 // What a comparison of two operands says in row i.
 pub(super) fn compared(hot: &[u64], way: u8, op: u32, x: Side, y: Side, i: usize) -> [u64; 4]
     requires { ⌜ (i < 256) × (length (now hot) ≡ 64) × Way way x y (now hot) ⌝ }
@@ -178,6 +230,9 @@ pub(super) fn compared(hot: &[u64], way: u8, op: u32, x: Side, y: Side, i: usize
     }
     if way == 2 {
         return joined(hot, 1 << y.bits, true, op, y.size, a.number, a.size);
+    }
+    if way == 3 {
+        return lane_by_lane(op, x, y);
     }
     compare_all(op, a, b)
 }

@@ -2,6 +2,4 @@ pub mod Numbers  -- numbers by their bits: fields, one bit more
 pub mod Words  -- words of lanes, planes
 pub mod Turns  -- a turn of each loop over bits or members
 pub mod Values  -- numbers that are values of a class
-pub mod Tables  -- a value put in, tables of operands
-pub mod Nodes  -- nodes, one after another
-pub mod Fours  -- nodes with four words each
+pub mod Comparisons  -- comparisons of operands

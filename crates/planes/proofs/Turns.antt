@@ -23,10 +23,6 @@ all-more : (f : ℕ → Bool) (k : ℕ) → allBelow f (k + 1) ≡ allBelow f k 
 unfolding allBelow
 all-more f k = rw add-one
 
-and-false : (a : Bool) → a && false ≡ false
-and-false true = refl
-and-false false = refl
-
 or-false : (a : Bool) → a || false ≡ a
 or-false true = refl
 or-false false = refl

@@ -1,16 +1,15 @@
 -- Laws of numbers that are values of a class. In order: codes of an attribute; a field cut to a byte's bits; one attribute more; all of them.
 use mathlib.Core.Path.{_≡_, refl, sym, ap, ap₂, _∙_, subst}
-use mathlib.Core.Bool.{Bool, true, false, _&&_, cond}
+use mathlib.Core.Bool.{Bool, true, false, _&&_}
 use mathlib.Core.List.{List}
 use Prim.Native.Nat.{ℕ, _+_, _*_, _/_, _%_, _^_, _≤_, _<_, min}
-use native.Mathlib.Decide.{decLt, decLe, ℕ-discrete}
+use native.Mathlib.Decide.{decLt, decLe}
 use native.Mathlib.Nat.{zero-add, zero-mul, mod-lt, mod-eq-of-lt, div-eq-of-lt, min-eq-left, min-eq-right}
 use native.Mathlib.Omega.{arith}
 use borrow.Author.Tests.{lt-ltb, eq-eqb, ne-eqb}
 use lib.Dec.{ltb, eqb}
 use lib.ListN.{drop}
 use lib.Pow.{pow-pos, pow-mono, split, field, mod-mod-pow}
-use Rattle.format.specs.Format.{within}
 use Rattle.policy.specs.Policy.{Attr, bitsFor, codes, width}
 use Rattle.policy.specs.Rules.{attrAt, attrsOf}
 use Rattle.policy.specs.declared.Class.{Class}
@@ -18,7 +17,6 @@ use Rattle.lists.specs.Lists.{inLists, listed}
 use Rattle.lists.proofs.Laws.{within-is, in-next, in-none, listed-in}
 use Rattle.lists.proofs.Narrow.{in-narrow}
 use Rattle.planes.specs.Word.{numberIn}
-use Rattle.planes.specs.declared.operand.Operand.{Operand}
 
 module _ (kind size own x : ℕ) where
   -- every code of a set is one

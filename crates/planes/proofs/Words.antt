@@ -1,17 +1,15 @@
 -- Laws of words of lanes. In order: words by what is said of their lanes; a lane's number by its planes; words by what is said of
--- these numbers; the eight planes; four words, one after another.
+-- these numbers; the eight planes.
 use mathlib.Core.Path.{_≡_, refl, sym, ap, _∙_, subst}
 use mathlib.Core.Bool.{Bool, true, false, not, cond}
 use mathlib.Core.List.{List, [], _∷_}
 use Prim.Native.Nat.{ℕ, zero, suc, _+_, _*_, _/_, _%_, _^_, _<_}
-use native.Mathlib.Decide.{ℕ-discrete}
 use native.Mathlib.Numerals.{unary-clauses}
 use native.Mathlib.Omega.{arith}
 use borrow.Author.Tests.{not-false}
 use lib.Dec.{T, eqb, eqb→eq}
-use lib.ListN.{length, getD, set}
-use lib.Seq.{getD-set-same, getD-set-other}
-use Rattle.lanes.specs.Lanes.{bitOf, laneOf, Lanes, someBelow}
+use lib.ListN.{length, getD}
+use Rattle.lanes.specs.Lanes.{bitOf, someBelow}
 use Rattle.lanes.proofs.Laws.{some-none}
 use Rattle.lanes.proofs.Bits.{bit-zero, bit-ones}
 use Rattle.planes.specs.Word.{Word, laneNumber, Told, Planes}
@@ -113,16 +111,3 @@ planes-whole w a b h A B = record { each = λ j l. go j l ∙ planes-are w j h l
 
     go : (j : ℕ) → j < 64 → laneNumber (t a b) j ≡ laneNumber (planesBy p q) j
     go j l = simp (A w .each j l, B w .each j l, bit-whole p j l, bit-whole q j l)
-
--- one more of the words that are as f says
-pub words-next : (f : ℕ → Bool) (r : List ℕ) (w x : ℕ) → w < length r → ((q : ℕ) → q < w → Word f q (getD r q 0)) → Word f w x → (q : ℕ) → q < w + 1 → Word f q (getD (set r w x) q 0)
-words-next f r w x l before new q h = go (ℕ-discrete q w)
-  where
-    go : Dec (q ≡ w) → Word f q (getD (set r w x) q 0)
-    go (yes e) = subst (λ (k : ℕ). Word f k (getD (set r w x) k 0)) (sym e) (subst (Word f w) (sym (getD-set-same r w x 0 l)) new)
-    go (no n) = subst (Word f q) (sym (getD-set-other r w q x 0 n)) (before q (omega arith))
-
--- four of them are a set of the lanes of f
-pub lanes-words : (f : ℕ → Bool) (x : List ℕ) → length x ≡ 4 → ((q : ℕ) → q < 4 → Word f q (getD x q 0)) → Lanes f x
-unfolding laneOf
-lanes-words f x l e = record { long = l; each = λ v h. e (v / 64) (omega arith) .each (v % 64) (omega arith) ∙ ap f (omega arith) }

@@ -1,3 +1,2 @@
 -- in reading order
-pub mod Put  -- the holders with one value put in
-pub mod Word  -- private vocabulary: words of 64 lanes, planes, operands and formulas in lanes, tables of operands
+pub mod Word  -- words of 64 lanes, planes, operands and comparisons in lanes

@@ -3,7 +3,7 @@ ghost use mathlib.Core.Path.{_≡_};
 ghost use Prim.Native.Nat.{_/_, _%_, _^_, _<_};
 ghost use lib.Dec.{ltb, eqb};
 ghost use lib.ListN.{length};
-ghost use Rattle.policy.specs.Policy.{Attr, bitsFor, codes, width};
+ghost use Rattle.policy.specs.Policy.{bitsFor, codes, width};
 ghost use Rattle.policy.specs.Rules.{attrsOf};
 ghost use Rattle.lists.specs.Lists.{listed};
 ghost use Rattle.planes.specs.Word.{Word, Told};

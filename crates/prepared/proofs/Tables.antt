@@ -118,14 +118,14 @@ module _ {c : Lists} {nodes : List ℕ} {L R O : ℕ} {p : Plan} {steps area : L
 
       -- its table, by what it depends on
       table-at : (i v : ℕ) (x y z : Bool) → v < 256 → onLanes k ≡ x → onRows k ≡ y → onOuter k ≡ z
-          → i < rowsFor c nodes L R O x y z
+          → i < rowsFor c L R O x y z
           → bitAt area (tableAt (P .room) k + i) v ≡ leaf c (laneFor L R O x y) (rowFor L R O x y) (getD nodes k 0) i v
       table-at i v x y z h d e f q =
-          let s : rowsFor c nodes L R O (onLanes k) (onRows k) (onOuter k) ≡ rowsFor c nodes L R O x y z = rw (d, e, f) refl in
+          let s : rowsFor c L R O (onLanes k) (onRows k) (onOuter k) ≡ rowsFor c L R O x y z = rw (d, e, f) refl in
           P .tables k i v l h a (subst (λ (m : ℕ). i < m) (sym s) q)
           ∙ ap₂ (λ (s t : Bool). leaf c (laneFor L R O s t) (rowFor L R O s t) (getD nodes k 0) i v) d e
 
-      first-at : (v : ℕ) (x y z : Bool) → v < 256 → onLanes k ≡ x → onRows k ≡ y → onOuter k ≡ z → rowsFor c nodes L R O x y z ≡ 1
+      first-at : (v : ℕ) (x y z : Bool) → v < 256 → onLanes k ≡ x → onRows k ≡ y → onOuter k ≡ z → rowsFor c L R O x y z ≡ 1
           → bitAt area (tableAt (P .room) k) v ≡ leaf c (laneFor L R O x y) (rowFor L R O x y) (getD nodes k 0) 0 v
       first-at v x y z h d e f q = ap (λ (b : ℕ). bitAt area b v) (omega arith) ∙ table-at 0 v x y z h d e f (omega (arith, q))
 

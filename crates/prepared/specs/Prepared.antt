@@ -68,11 +68,11 @@ module _ (L R O : ℕ) where
   unfoldable pub rowFor : Bool → Bool → ℕ
   rowFor lanes rows = cond lanes (cond rows R O) O
 
-module _ (c : Lists) (nodes : List ℕ) (L R O : ℕ) where
-  -- how many rows it has
-  unfoldable pub rowsFor : Bool → Bool → Bool → ℕ
-  rowsFor lanes rows outer = cond (cond lanes (rows || outer) (cond rows outer false)) (roomOf c (rowFor L R O lanes rows)) 1
+-- how many rows such a comparison has
+unfoldable pub rowsFor : Lists → ℕ → ℕ → ℕ → Bool → Bool → Bool → ℕ
+rowsFor c L R O lanes rows outer = cond (cond lanes (rows || outer) (cond rows outer false)) (roomOf c (rowFor L R O lanes rows)) 1
 
+module _ (c : Lists) (nodes : List ℕ) (L R O : ℕ) where
   -- which nodes depend on each of the three, for how many rows each table has place, what the area has, and the lists of steps
   pub record Prepared (p : Plan) (steps area : List ℕ) : Type 0 where
     pub apart : (L ≡ R → ⊥) × (L ≡ O → ⊥) × (R ≡ O → ⊥)
@@ -90,7 +90,7 @@ module _ (c : Lists) (nodes : List ℕ) (L R O : ℕ) where
     pub room-few : room ≤ 256
     pub none : (v : ℕ) → v < 256 → bitAt area 0 v ≡ false
     pub tables : (k i v : ℕ) → k < p .nodes → v < 256 → 5 ≤ opOf (getD nodes k 0)
-        → i < rowsFor (getD lanes k false) (getD rows k false) (getD outer k false)
+        → i < rowsFor c L R O (getD lanes k false) (getD rows k false) (getD outer k false)
         → bitAt area (tableAt room k + i) v ≡ leaf c (laneFor L R O (getD lanes k false) (getD rows k false)) (rowFor L R O (getD lanes k false) (getD rows k false)) (getD nodes k 0) i v
     pub told : (k i : ℕ) → k < p .nodes → i < 256 → getD lanes k false ≡ false → getD rows k false ≡ false → bitAt area (129 + k) i ≡ answer c nodes (holders L R O i 0 0) k
     pub across : Listed (λ k. sameAs false (getD lanes k false)) (λ k. nodeStep 65 129 (getD rows k false) (getD outer k false) (getD nodes k 0) k (tableAt room k)) (p .nodes) 0 (p .across) steps

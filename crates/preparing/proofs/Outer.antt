@@ -60,15 +60,15 @@ row-outer : (L R O : ℕ) (a b : Bool) → a ≡ false → rowFor L R O a b ≡ 
 unfolding rowFor
 row-outer L R O a b p = rw p refl
 
-rows-alone : (c : Lists) (nodes : List ℕ) (L R O : ℕ) (a b d : Bool) → a ≡ false → b ≡ false → rowsFor c nodes L R O a b d ≡ 1
+rows-alone : (c : Lists) (L R O : ℕ) (a b d : Bool) → a ≡ false → b ≡ false → rowsFor c L R O a b d ≡ 1
 unfolding rowsFor
-rows-alone c nodes L R O a b d p q = rw (p, q) refl
+rows-alone c L R O a b d p q = rw (p, q) refl
 
 -- the area where row 0 had no bit, the tables were filled in, and then these nodes were worked out
 module _ (c : Lists) (nodes : List ℕ) (L R O n room : ℕ) (lanes rows outer : List Bool) (p : L ≡ O → ⊥) (q : R ≡ O → ⊥)
     (on-lanes : Depends (λ k. getD nodes k 0) L n lanes) (on-rows : Depends (λ k. getD nodes k 0) R n rows) (few : n ≤ 64) (room-few : room ≤ 256)
     (first laid area : List ℕ) (clear : (v : ℕ) → v < 256 → bitAt first 0 v ≡ false)
-    (T : Tables c nodes L R O lanes rows outer (λ k. getD nodes k 0) room n first laid) (W : Worked nodes lanes rows room n laid area) where
+    (T : Tables c L R O lanes rows outer (λ k. getD nodes k 0) room n first laid) (W : Worked nodes lanes rows room n laid area) where
   neither : ℕ → Bool
   neither k = not (getD lanes k false || getD rows k false)
 
@@ -80,7 +80,7 @@ module _ (c : Lists) (nodes : List ℕ) (L R O n room : ℕ) (lanes rows outer :
       let b = getD rows k false in
       let w = neither-of a b e in
       ap (λ (r : ℕ). bitAt laid r v) (omega arith)
-      ∙ T .each k 0 v l h o (omega (arith, rows-alone c nodes L R O a b (getD outer k false) (w .0) (w .1)))
+      ∙ T .each k 0 v l h o (omega (arith, rows-alone c L R O a b (getD outer k false) (w .0) (w .1)))
       ∙ ap₂ (λ (x y : ℕ). leaf c x y (getD nodes k 0) 0 v) (lane-outer L R O a b (w .0) (w .1)) (row-outer L R O a b (w .0))
       ∙ leaf-alone c L R O p q nodes k v
 
@@ -120,7 +120,7 @@ module _ (c : Lists) (nodes : List ℕ) (L R O n room : ℕ) (lanes rows outer :
       W .rows-are .each (129 + k) i h ∙ level-right start (W .listed) k i l h (neither-is (getD lanes k false) (getD rows k false) a b)
 
   pub worked-tables : (k i v : ℕ) → k < n → v < 256 → 5 ≤ opOf (getD nodes k 0)
-      → i < rowsFor c nodes L R O (getD lanes k false) (getD rows k false) (getD outer k false)
+      → i < rowsFor c L R O (getD lanes k false) (getD rows k false) (getD outer k false)
       → bitAt area (tableAt room k + i) v
       ≡ leaf c (laneFor L R O (getD lanes k false) (getD rows k false)) (rowFor L R O (getD lanes k false) (getD rows k false)) (getD nodes k 0) i v
   unfolding neither

@@ -36,8 +36,8 @@ stored-none x old new X N v h = N .each 0 v h ∙ put-same 0 (laneOf x) (bitAt o
 
 -- the tables of a formula's nodes, which stand among those of all
 tables-own : (c : Lists) (nodes : List ℕ) (L R O : ℕ) (lanes rows outer : List Bool) (f n room : ℕ) (old new : List ℕ)
-    → Tables c (nodesOf nodes f n) L R O lanes rows outer (λ k. getD nodes (64 * f + k) 0) room n old new
-    → Tables c (nodesOf nodes f n) L R O lanes rows outer (λ k. getD (nodesOf nodes f n) k 0) room n old new
+    → Tables c L R O lanes rows outer (λ k. getD nodes (64 * f + k) 0) room n old new
+    → Tables c L R O lanes rows outer (λ k. getD (nodesOf nodes f n) k 0) room n old new
 tables-own c nodes L R O lanes rows outer f n room old new T =
     record {
       kept = T .kept;
@@ -55,7 +55,7 @@ module _ (c : Lists) (all : List ℕ) (f L R O n room rs os : ℕ) (lanes rows o
     (few : n ≤ 64) (room-few : room ≤ 256) (rs-are : rs ≡ roomOf c R) (os-are : os ≡ roomOf c O)
     (rs-low : 0 < rs) (os-low : 0 < os) (rs-few : rs ≤ room) (os-few : os ≤ room)
     (first laid area steps : List ℕ) (clear : (v : ℕ) → v < 256 → bitAt first 0 v ≡ false)
-    (T : Tables c (nodesOf all f n) L R O lanes rows outer (λ k. getD all (64 * f + k) 0) room n first laid)
+    (T : Tables c L R O lanes rows outer (λ k. getD all (64 * f + k) 0) room n first laid)
     (W : Worked (nodesOf all f n) lanes rows room n laid area)
     (p q r : ℕ) (S : ThreeLists (nodesOf all f n) lanes rows outer room n p q r steps)
     (long : 192 ≤ length steps) (wide : 4 * (193 + 64 * room) ≤ length area) where

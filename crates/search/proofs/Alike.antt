@@ -1,6 +1,6 @@
 -- Searches of items by helpers that agree below 256 are the same.
 use mathlib.Core.Path.{_≡_, sym, ap, _∙_}
-use mathlib.Core.Bool.{Bool, true}
+use mathlib.Core.Bool.{Bool}
 use mathlib.Core.List.{List}
 use Prim.Native.Nat.{ℕ, _<_}
 use Rattle.runs.specs.Model.{Model}
@@ -18,4 +18,4 @@ module _ (m : Model) (f g : ℕ → Bool) (same : (v : ℕ) → v < 256 → f v 
 
   pub any-ext : (values : List ℕ) → anyFound m f values ≡ anyFound m g values
   any-ext values =
-      any-is m f values ∙ items-ext m _ _ ready _ 256 ∙ ap (λ (q : Found). growItems m (readyOf m g) q 256) (asked-ext m _ _ ready true 0 _ 0 256) ∙ sym (any-is m g values)
+      any-is m f values ∙ items-ext m _ _ ready _ 256 ∙ ap (λ (q : Found). growItems m (readyOf m g) q 256) (asked-ext m _ _ ready _ 256) ∙ sym (any-is m g values)

@@ -1,5 +1,5 @@
--- Searches of items: each place is worked off from the narrower side. In order: by session values; from either side; all places; the roots that
--- stand at the start; those and the ones that are made.
+-- Searches of items: each place is worked off by one session value after another. In order: one place; all places; the roots that stand at the start;
+-- those and the ones that are made.
 use mathlib.Core.Path.{_≡_, refl}
 use mathlib.Core.Bool.{Bool, true, false, not, _&&_}
 use mathlib.Core.List.{List}
@@ -8,43 +8,36 @@ use Prim.Native.Nat.{ℕ, zero, suc, _+_, _-_, _≤_, _<_}
 use native.Mathlib.Decide.{ℕ-discrete}
 use native.Mathlib.Omega.{arith}
 use borrow.Author.Tests.{not-true, not-false}
-use lib.Dec.{leb}
 use lib.ListN.{length, getD}
-use Rattle.lanes.specs.Lanes.{laneOf, someBelow, countBelow}
+use Rattle.lanes.specs.Lanes.{laneOf, someBelow}
 use Rattle.runs.specs.Model.{Model}
 use Rattle.runs.specs.Edge.{makesWith, modifiesTo}
 use Rattle.verdict.proofs.Below.{both-of}
 use Rattle.verdict.proofs.Decided.{modifies-to}
 use Rattle.search.specs.Queue.{nothing, pushed, unmet, spread}
-use Rattle.search.specs.Items.{asked, offered, widened, growItems, readyOf, startRoots}
+use Rattle.search.specs.Items.{asked, offered, growItems, readyOf, startRoots}
 use Rattle.search.specs.Searched.{valueAt, Good, Searched}
 use Rattle.search.specs.Claims.{Modify, Begun}
 use Rattle.search.specs.declared.queue.Found.{Found}
-use Rattle.search.proofs.Turns.{chosen, all-met, able-make, able-modify, ready-is, offered-none, offered-turn, widened-is, grow-items-none, grow-items-turn, start-none, start-turn}
+use Rattle.search.proofs.Turns.{chosen, all-met, ready-is, offered-none, offered-turn, grow-items-none, grow-items-turn, start-none, start-turn}
 use Rattle.search.proofs.Pushing.{start, next, nothing-good}
 use Rattle.search.proofs.Spreading.{Brings, brings-none, brings-stay, brings-push, brings-then, spread-brings}
 use Rattle.search.proofs.Asking.{May, asked-brings}
 use Rattle.search.proofs.Growing.{Seeking, seeking-start, seeking-turn, seeking-end}
 
-module _ (m : Model) (helper : ℕ → Bool) (S : ℕ → ℕ → Type 0) where
-  abbrev ready : ℕ → Bool
-  ready = readyOf m helper
-
+-- one place, by some of the session values that can be had
+module _ (m : Model) (helper ready : ℕ → Bool) (had : (v : ℕ) → v < 256 → ready v ≡ true → readyOf m helper v ≡ true) (S : ℕ → ℕ → Type 0) where
   modify : (o v n : ℕ) → v < 256 → ready v ≡ true → modifiesTo m v o n ≡ true → Modify m helper o v n
-  modify o v n h e t = let (a, b) = ready-is m helper v .0 e in (h, a, b, t)
-
-  modify-item : (o v n : ℕ) → Modify m helper o v n → m .itemValue n ≡ true
-  modify-item o v n (h, a, b, t) = modifies-to m v o n .0 t .0
+  modify o v n h e t = let (a, b) = ready-is m helper v .0 (had v h e) in (h, a, b, t)
 
   -- what the last k session values may change an item to that has value x
-  abbrev By : ℕ → ℕ → ℕ → Type 0
+  abbrev pub By : ℕ → ℕ → ℕ → Type 0
   By x k y = (w : ℕ) × (w < 256) × (256 ≤ w + k) × (ready w ≡ true) × (modifiesTo m w x y ≡ true)
 
   by-less : (x k y : ℕ) → k < 256 → (z : By x (suc k) y) → Dec (z .0 ≡ 255 - k) → By x k y ⊎ ((ready (255 - k) ≡ true) × (modifiesTo m (255 - k) x y ≡ true))
   by-less x k y h (w, l, g, a, b) (yes e) = inr (rw e at a, rw e at b)
   by-less x k y h (w, l, g, a, b) (no d) = inl (w, l, omega arith, a, b)
 
-  -- one place
   module _ (q : Found) (i : ℕ) (G : Good S (Modify m helper) q) (h : i < q .len) where
     taken : (k : ℕ) (r : Found) → k < 256 → Brings S (Modify m helper) q (By (valueAt q i) k) r → ready (255 - k) ≡ true
         → Brings S (Modify m helper) q (By (valueAt q i) (suc k)) (spread (modifiesTo m (255 - k) (valueAt q i)) r (i + 1) (255 - k))
@@ -59,7 +52,7 @@ module _ (m : Model) (helper : ℕ → Bool) (S : ℕ → ℕ → Type 0) where
         go v (inl z) = inl z
         go v (inr z) = inr (z .1)
 
-    -- session value 255 - k can't be had, or all item values are seen
+    -- session value 255 - k is not one of them, or all item values are seen
     left : (k : ℕ) (r : Found) → k < 256 → Brings S (Modify m helper) q (By (valueAt q i) k) r → ready (255 - k) && someBelow (unmet (m .itemValue) r) 256 ≡ false
         → Brings S (Modify m helper) q (By (valueAt q i) (suc k)) r
     left k r l b e = brings-stay S (Modify m helper) q _ _ r b (λ v g z. go v g (by-less (valueAt q i) k v l z (ℕ-discrete (z .0) (255 - k))))
@@ -72,7 +65,7 @@ module _ (m : Model) (helper : ℕ → Bool) (S : ℕ → ℕ → Type 0) where
             inr (all-met (m .itemValue) r met v g (modifies-to m (255 - k) (valueAt q i) v .0 t .0))
 
     -- by session values
-    offered-brings : (k : ℕ) → k ≤ 256 → Brings S (Modify m helper) q (By (valueAt q i) k) (offered m ready q i k)
+    pub offered-brings : (k : ℕ) → k ≤ 256 → Brings S (Modify m helper) q (By (valueAt q i) k) (offered m ready q i k)
     offered-brings zero l = rw (offered-none m ready q i) (brings-none S (Modify m helper) q _ G (λ v (w, a, b, c, t). omega arith))
     offered-brings (suc k) l =
         let b : Brings S (Modify m helper) q (By (valueAt q i) k) (offered m ready q i k) = offered-brings k (omega arith) in
@@ -80,37 +73,23 @@ module _ (m : Model) (helper : ℕ → Bool) (S : ℕ → ℕ → Type 0) where
         (chosen (Brings S (Modify m helper) q (By (valueAt q i) (suc k))) _ _ _
         (λ e. taken k _ (omega arith) b (both-of (ready (255 - k)) (someBelow (unmet (m .itemValue) (offered m ready q i k)) 256) e .0)) (λ e. left k _ (omega arith) b e))
 
-    -- from either side
-    abbrev Wide : Found → Type 0
-    Wide = Brings S (Modify m helper) q (λ v. (via : ℕ) × Modify m helper (valueAt q i) via v)
+-- all places
+module _ (m : Model) (helper : ℕ → Bool) (S : ℕ → ℕ → Type 0) where
+  modify-item : (o v n : ℕ) → Modify m helper o v n → m .itemValue n ≡ true
+  modify-item o v n (h, a, b, t) = modifies-to m v o n .0 t .0
 
-    wide-offered : Wide (offered m ready q i 256)
-    wide-offered =
-        brings-stay S (Modify m helper) q _ _ _ (offered-brings 256 (omega arith)) (λ v l (w, (a, b, c, t)). inl (w, a, omega arith, ready-is m helper w .1 (b, c), t))
+  place-brings : (q : Found) (i : ℕ) → Good S (Modify m helper) q → i < q .len
+      → Brings S (Modify m helper) q (λ v. (via : ℕ) × Modify m helper (valueAt q i) via v) (offered m (readyOf m helper) q i 256)
+  place-brings q i G h =
+      brings-stay S (Modify m helper) q _ _ _ (offered-brings m helper (readyOf m helper) (λ v l e. e) S q i G h 256 (omega arith))
+      (λ v l (w, (a, b, c, t)). inl (w, a, omega arith, ready-is m helper w .1 (b, c), t))
 
-    wide-asked : Wide (asked m ready false (valueAt q i) q (i + 1) 256)
-    wide-asked =
-        brings-stay S (Modify m helper) q _ _ _ (asked-brings m ready false (valueAt q i) S (Modify m helper) q (i + 1) G (λ n v p. next i refl h (may-modify n v p)))
-        (λ v l z. inl (z .0, modify-may v (z .0) (z .1)))
-      where
-        may-modify : (n v : ℕ) → May m ready false (valueAt q i) n v → Modify m helper (valueAt q i) v n
-        may-modify n v (a, b, c) = modify (valueAt q i) v n a b (able-modify m (valueAt q i) n v .0 c .1)
-
-        modify-may : (n v : ℕ) → Modify m helper (valueAt q i) v n → May m ready false (valueAt q i) n v
-        modify-may n v (a, b, c, t) = (a, ready-is m helper v .1 (b, c), able-modify m (valueAt q i) n v .1 (c, t))
-
-    widened-brings : Wide (widened m ready q i)
-    widened-brings =
-        rw (widened-is m ready q i)
-        (chosen Wide (leb (countBelow ready 256) (countBelow (unmet (m .itemValue) q) 256)) _ _ (λ e. wide-offered) (λ e. wide-asked))
-
-  -- all places
   pub grow-items-seeks : (q : Found) → Seeking S (Modify m helper) 0 q → (i : ℕ) → Seeking S (Modify m helper) i (growItems m (readyOf m helper) q i)
-  grow-items-seeks q s zero = rw (grow-items-none m ready q) s
+  grow-items-seeks q s zero = rw (grow-items-none m (readyOf m helper) q) s
   grow-items-seeks q s (suc i) =
-      let r : Seeking S (Modify m helper) i (growItems m ready q i) = grow-items-seeks q s i in
-      rw (grow-items-turn m ready q i)
-      (seeking-turn S (Modify m helper) (m .itemValue) modify-item i (growItems m ready q i) _ r (λ h. widened-brings (growItems m ready q i) i (r .good) h))
+      let r : Seeking S (Modify m helper) i (growItems m (readyOf m helper) q i) = grow-items-seeks q s i in
+      rw (grow-items-turn m (readyOf m helper) q i)
+      (seeking-turn S (Modify m helper) (m .itemValue) modify-item i (growItems m (readyOf m helper) q i) _ r (λ h. place-brings (growItems m (readyOf m helper) q i) i (r .good) h))
 
   pub grow-items-searched : (q : Found) → Seeking S (Modify m helper) 0 q → Searched S (Modify m helper) (growItems m (readyOf m helper) q 256)
   grow-items-searched q s = seeking-end S (Modify m helper) _ (grow-items-seeks q s 256)
@@ -146,17 +125,15 @@ module _ (values : List ℕ) (byte : (j : ℕ) → j < length values → getD va
 
 -- the starting items, then those that are made
 pub begun : (m : Model) (helper : ℕ → Bool) (values : List ℕ) → ((j : ℕ) → j < length values → getD values j 0 < 256) → (E : ℕ → ℕ → ℕ → Type 0)
-    → Seeking (Begun m helper values) E 0 (asked m (readyOf m helper) true 0 (startRoots values nothing (length values)) 0 256)
+    → Seeking (Begun m helper values) E 0 (asked m (readyOf m helper) (startRoots values nothing (length values)) 256)
 begun m helper values byte E =
     let a = start-brings values byte (Begun m helper values) E (λ j h. inl (j, h, refl, refl)) nothing (nothing-good _ E) (length values) (omega arith) in
-    let b = asked-brings m (readyOf m helper) true 0 (Begun m helper values) E _ 0 (a .good) (λ n v p. start refl (inr (may-make n v p))) in
+    let b = asked-brings m (readyOf m helper) (Begun m helper values) E _ (a .good) (λ n v p. inr (may-make n v p)) in
     seeking-start _ E nothing _ (brings-then _ E nothing _ _ _ _ _ a b (λ v h z. which v (z .0) (z .1)))
   where
-    may-make : (n v : ℕ) → May m (readyOf m helper) true 0 n v → (v < 256) × (helper v ≡ true) × (m .sessionValue v ≡ true) × (makesWith m v n ≡ true)
-    may-make n v (a, b, c) =
-        let (d, e) = ready-is m helper v .0 b in
-        (a, d, e, able-make m 0 n v .0 c .1)
+    may-make : (n v : ℕ) → May m (readyOf m helper) n v → (v < 256) × (helper v ≡ true) × (m .sessionValue v ≡ true) × (makesWith m v n ≡ true)
+    may-make n v (a, b, c, d) = (a, ready-is m helper v .0 b .0, c, d)
 
-    which : (v via : ℕ) → Begun m helper values via v → ((j : ℕ) × (j < length values) × (v ≡ getD values j 0)) ⊎ ((w : ℕ) × May m (readyOf m helper) true 0 v w)
+    which : (v via : ℕ) → Begun m helper values via v → ((j : ℕ) × (j < length values) × (v ≡ getD values j 0)) ⊎ ((w : ℕ) × May m (readyOf m helper) v w)
     which v via (inl (j, l, e, z)) = inl (j, l, z)
-    which v via (inr (l, a, b, c)) = inr (via, (l, ready-is m helper via .1 (a, b), able-make m 0 v via .1 (b, c)))
+    which v via (inr (l, a, b, c)) = inr (via, (l, ready-is m helper via .1 (a, b), b, c))

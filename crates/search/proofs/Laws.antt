@@ -8,34 +8,35 @@ use native.Mathlib.Numerals.{add-one}
 use native.Mathlib.Omega.{arith}
 use borrow.Author.Tests.{le-leb, lt-leb, lt-ltb, le-ltb, eq-eqb, ne-eqb}
 use lib.Dec.{ltb}
-use lib.ListN.{getD, set, replicate}
+use lib.ListN.{length, getD, set, replicate}
 use Rattle.lanes.specs.Lanes.{laneOf, added, Lanes, someBelow, noLane}
 use Rattle.lanes.proofs.Laws.{Rest, lowest-here, lanes-as, none-lanes}
 use Rattle.runs.specs.Model.{Model}
 use Rattle.runs.specs.Edge.{opensWith, changesTo, modifiesTo}
 use Rattle.search.specs.Queue.{nothing, depthAfter, pushed, unmet, spreadTo, spread}
-use Rattle.search.specs.Lent.{foundOf}
-use Rattle.search.specs.Sessions.{growTo, sessionsFound, ownFound}
-use Rattle.search.specs.Items.{asked}
+use Rattle.search.specs.Lent.{part, foundOf}
+use Rattle.search.specs.Sessions.{grownAt, growTo, sessionsFound, ownFound}
 use Rattle.search.specs.declared.queue.Found.{Found}
 use Rattle.search.specs.declared.queue.Head.{Head}
+use Rattle.search.proofs.Parts.{part-none, linked-from, linked-via, linked-depth, linked-place}
 
 -- nothing found, where the arrays are lent
-pub lent-nothing : {h : Head} → h ≡ record { seen = replicate 4 0; len = 0 }
-    → foundOf h (replicate 256 0) (replicate 256 0) (replicate 256 0) (replicate 256 0) (replicate 256 0) ≡ nothing
+pub lent-nothing : {h : Head} → h ≡ record { seen = replicate 4 0; len = 0 } → foundOf h (replicate 256 0) (replicate 1024 0) ≡ nothing
 unfolding nothing
-lent-nothing e = ap (λ (h : Head). foundOf h (replicate 256 0) (replicate 256 0) (replicate 256 0) (replicate 256 0) (replicate 256 0)) e
+lent-nothing e =
+    ap (λ (h : Head). foundOf h (replicate 256 0) (replicate 1024 0)) e
+    ∙ simp (part-none 0 (omega arith), part-none 1 (omega arith), part-none 2 (omega arith), part-none 3 (omega arith)) refl
 
-module _ (q : Found) (from : ℕ) where
-  pub depth-start : from ≡ 0 → depthAfter q from ≡ 0
+module _ (depth : List ℕ) (from : ℕ) where
+  pub depth-start : from ≡ 0 → depthAfter depth from ≡ 0
   unfolding depthAfter
   depth-start e = simp (eq-eqb from 0 e)
 
-  pub depth-far : (from ≡ 0 → ⊥) → 256 ≤ from - 1 → depthAfter q from ≡ 0
+  pub depth-far : (from ≡ 0 → ⊥) → 256 ≤ from - 1 → depthAfter depth from ≡ 0
   unfolding depthAfter
   depth-far d h = simp (ne-eqb from 0 d, le-leb 256 (from - 1) h)
 
-  pub depth-at : (from ≡ 0 → ⊥) → from - 1 < 256 → depthAfter q from ≡ (getD (q .depth) (from - 1) 0 + 1) % 65536
+  pub depth-at : (from ≡ 0 → ⊥) → from - 1 < 256 → depthAfter depth from ≡ (getD depth (from - 1) 0 + 1) % 65536
   unfolding depthAfter
   depth-at d h = simp (ne-eqb from 0 d, lt-leb 256 (from - 1) h)
 
@@ -51,12 +52,30 @@ module _ (q : Found) (y from via : ℕ) where
         order = set (q .order) (q .len) y;
         from = set (q .from) (q .len) from;
         via = set (q .via) (q .len) via;
-        depth = set (q .depth) (q .len) (depthAfter q from);
+        depth = set (q .depth) (q .len) (depthAfter (q .depth) from);
         place = set (q .place) y (q .len + 1);
         len = q .len + 1;
       }
   unfolding pushed
   push-room h = simp (lt-leb 256 (q .len) h)
+
+-- a value stored at the end, where the arrays are lent
+pub push-lent : (h : Head) (order links seen : List ℕ) (y from via depth : ℕ) → length links ≡ 1024 → h .len < 256 → y < 256
+    → seen ≡ added (h .seen) y → depth ≡ depthAfter (part 2 links) from
+    → foundOf (record { seen = seen; len = h .len + 1 }) (set order (h .len) y)
+    (set (set (set (set links (h .len) from) (256 + h .len) via) (512 + h .len) depth) (768 + y) (h .len + 1))
+    ≡ pushed (foundOf h order links) y from via
+push-lent h order links seen y from via depth L l g e f =
+    let k = h .len in
+    rw (
+      linked-from links k y from via depth (k + 1) L l g,
+      linked-via links k y from via depth (k + 1) L l g,
+      linked-depth links k y from via depth (k + 1) L l g,
+      linked-place links k y from via depth (k + 1) L l g,
+      e,
+      f,
+    )
+    (sym (push-room (foundOf h order links) y from via l))
 
 -- a choice by a flag that is known
 pub cond-on : (b : Bool) (p r : Found) {x : Found} → b ≡ true → x ≡ p → x ≡ cond b p r
@@ -185,6 +204,14 @@ module _ (q : Found) (from via : ℕ) where
     unfolding modifiesTo
     spread-modifies m v o = spread-fresh (m .itemValue) (m .mayModify v o)
 
+-- one value alone is new
+pub spread-one : (f : ℕ → Bool) (q : Found) (from via y : ℕ) → y < 256 → unmet f q y ≡ true → ((v : ℕ) → v < 256 → (v ≡ y → ⊥) → unmet f q v ≡ false)
+    → spread f q from via ≡ pushed q y from via
+spread-one f q from via y h e o =
+    sym
+    (spread-next q from via f y 256 q (spread-start q from via f y (λ v l. o v (omega arith) (λ z. omega arith))) e h (λ v a b. o v b (λ z. omega arith))
+    ∙ spread-end q from via f)
+
 -- the values that a user may open a session with, asked of those in the lists
 pub opens-row : (m : Model) (u : ℕ) (within row : List ℕ) → Lanes (m .sessionValue) within → Lanes (λ (v : ℕ). laneOf within v && (ltb u (m .users) && m .mayOpen u v)) row → Lanes (opensWith m u) row
 unfolding opensWith
@@ -198,17 +225,14 @@ opens-row m u within row W R =
     turned false false p = refl
 
 -- from one place after another, of sessions
-module _ (edge : ℕ → ℕ → Bool) (q : Found) where
-  module _ (within : ℕ → Bool) where
-    pub grow-start : q ≡ growTo within edge q 0
-    unfolding growTo
-    grow-start = refl
+module _ (edge : ℕ → ℕ → Bool) (q : Found) (within : ℕ → Bool) where
+  pub grow-start : q ≡ growTo within edge q 0
+  unfolding growTo
+  grow-start = refl
 
-    pub grow-turn : (i : ℕ) (r : Found) (b : Bool) → r ≡ growTo within edge q i → ltb i (r .len) && someBelow (unmet within r) 256 ≡ b
-        → cond b (spread (edge (getD (r .order) i 0)) r (i + 1) 0) r ≡ growTo within edge q (i + 1)
-    unfolding growTo
-    grow-turn i r b h t =
-        turn (growTo within edge q) (λ x. ltb i (x .len) && someBelow (unmet within x) 256) (λ x. spread (edge (getD (x .order) i 0)) x (i + 1) 0) i refl r b h t
+  pub grow-turn : (i : ℕ) → grownAt within edge (growTo within edge q i) i ≡ growTo within edge q (i + 1)
+  unfolding growTo
+  grow-turn i = ap (growTo within edge q) (sym (add-one i))
 
 module _ (m : Model) (u : ℕ) where
   pub sessions-are : sessionsFound m u ≡ growTo (m .sessionValue) (changesTo m u) (spread (opensWith m u) nothing 0 0) 256

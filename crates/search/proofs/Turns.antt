@@ -17,11 +17,11 @@ use Rattle.lanes.proofs.Counts.{count-below-le, count-ext}
 use Rattle.lanes.proofs.Bits.{bit-zero}
 use Rattle.lanes.proofs.Words.{lanes-added}
 use Rattle.runs.specs.Model.{Model}
-use Rattle.runs.specs.Edge.{opensWith, changesTo, makesWith, modifiesTo}
+use Rattle.runs.specs.Edge.{opensWith, changesTo, makesWith}
 use Rattle.verdict.proofs.Below.{both, both-of}
 use Rattle.search.specs.Queue.{nothing, depthAfter, pushed, unmet, spreadTo, spread}
-use Rattle.search.specs.Sessions.{growTo, sessionsFound, ownFound}
-use Rattle.search.specs.Items.{able, lastAble, asked, offered, widened, growItems, readyOf, oneFound, startRoots, anyFound}
+use Rattle.search.specs.Sessions.{grownAt, growTo, sessionsFound, ownFound}
+use Rattle.search.specs.Items.{lastMaker, asked, offeredBy, offered, itemsAt, growItems, readyOf, oneFound, startRoots, anyFound}
 use Rattle.search.specs.Searched.{valueAt, fromAt, viaAt, depthAt, placeAt, Sized}
 use Rattle.search.specs.declared.queue.Found.{Found}
 
@@ -87,7 +87,7 @@ pub record Push (q : Found) (y from via : ℕ) (r : Found) : Type 0 where
   pub value : valueAt r (q .len) ≡ y
   pub parent : fromAt r (q .len) ≡ from
   pub way : viaAt r (q .len) ≡ via
-  pub depth : depthAt r (q .len) ≡ depthAfter q from
+  pub depth : depthAt r (q .len) ≡ depthAfter (q .depth) from
   pub place : placeAt r y ≡ q .len + 1
   pub value-kept : (i : ℕ) → i < q .len → valueAt r i ≡ valueAt q i
   pub parent-kept : (i : ℕ) → i < q .len → fromAt r i ≡ fromAt q i
@@ -106,30 +106,30 @@ push-is q y from via s l h =
         order = length-set (q .order) (q .len) y ∙ s .order;
         from = length-set (q .from) (q .len) from ∙ s .from;
         via = length-set (q .via) (q .len) via ∙ s .via;
-        depth = length-set (q .depth) (q .len) (depthAfter q from) ∙ s .depth;
+        depth = length-set (q .depth) (q .len) (depthAfter (q .depth) from) ∙ s .depth;
         place = length-set (q .place) y (q .len + 1) ∙ s .place;
       };
       longer = refl;
       value = getD-set-same (q .order) (q .len) y 0 (omega (arith, s .order));
       parent = getD-set-same (q .from) (q .len) from 0 (omega (arith, s .from));
       way = getD-set-same (q .via) (q .len) via 0 (omega (arith, s .via));
-      depth = getD-set-same (q .depth) (q .len) (depthAfter q from) 0 (omega (arith, s .depth));
+      depth = getD-set-same (q .depth) (q .len) (depthAfter (q .depth) from) 0 (omega (arith, s .depth));
       place = getD-set-same (q .place) y (q .len + 1) 0 (omega (arith, s .place));
       value-kept = λ i k. getD-set-other (q .order) (q .len) i y 0 (λ z. omega arith);
       parent-kept = λ i k. getD-set-other (q .from) (q .len) i from 0 (λ z. omega arith);
       way-kept = λ i k. getD-set-other (q .via) (q .len) i via 0 (λ z. omega arith);
-      depth-kept = λ i k. getD-set-other (q .depth) (q .len) i (depthAfter q from) 0 (λ z. omega arith);
+      depth-kept = λ i k. getD-set-other (q .depth) (q .len) i (depthAfter (q .depth) from) 0 (λ z. omega arith);
       place-kept = λ v d. getD-set-other (q .place) y v (q .len + 1) 0 d;
       lanes = λ v k. lanes-added (q .seen) y (s .seen) h .each v k;
     })
 
 -- a start has no link before it
-pub depth-start : (q : Found) → depthAfter q 0 ≡ 0
+pub depth-start : (q : Found) → depthAfter (q .depth) 0 ≡ 0
 unfolding depthAfter
 depth-start q = refl
 
 -- what is found from place j has one more than j
-pub depth-link : (q : Found) (j : ℕ) → j < 256 → depthAt q j < 256 → depthAfter q (j + 1) ≡ depthAt q j + 1
+pub depth-link : (q : Found) (j : ℕ) → j < 256 → depthAt q j < 256 → depthAfter (q .depth) (j + 1) ≡ depthAt q j + 1
 unfolding depthAfter
 depth-link q j h d =
     let a : eqb (j + 1) 0 ≡ false = ne-eqb (j + 1) 0 (λ z. omega arith) in
@@ -172,9 +172,7 @@ module _ (within : ℕ → Bool) (edge : ℕ → ℕ → Bool) (q : Found) where
   unfolding growTo
   grow-none = refl
 
-  pub grow-turn : (i : ℕ) → growTo within edge q (suc i)
-      ≡ cond (ltb i (growTo within edge q i .len) && someBelow (unmet within (growTo within edge q i)) 256)
-      (spread (edge (valueAt (growTo within edge q i) i)) (growTo within edge q i) (i + 1) 0) (growTo within edge q i)
+  pub grow-turn : (i : ℕ) → growTo within edge q (suc i) ≡ grownAt within edge (growTo within edge q i) i
   unfolding growTo
   grow-turn i = refl
 
@@ -186,16 +184,6 @@ pub own-is : (m : Model) (u held : ℕ) → ownFound m u held ≡ growTo (m .ses
 unfolding ownFound
 own-is m u held = refl
 
--- a session with value v may make an item with value n
-pub able-make : (m : Model) (o n v : ℕ) → (able m true o n v ≡ true) ↔ ((m .sessionValue v ≡ true) × (makesWith m v n ≡ true))
-unfolding able
-able-make m o n v = (both-of (m .sessionValue v) (makesWith m v n), λ h. both (m .sessionValue v) (makesWith m v n) (h .0) (h .1))
-
--- or change one from o to n
-pub able-modify : (m : Model) (o n v : ℕ) → (able m false o n v ≡ true) ↔ ((m .sessionValue v ≡ true) × (modifiesTo m v o n ≡ true))
-unfolding able
-able-modify m o n v = (both-of (m .sessionValue v) (modifiesTo m v o n), λ h. both (m .sessionValue v) (modifiesTo m v o n) (h .0) (h .1))
-
 pub ready-is : (m : Model) (helper : ℕ → Bool) (v : ℕ) → (readyOf m helper v ≡ true) ↔ ((helper v ≡ true) × (m .sessionValue v ≡ true))
 unfolding readyOf
 ready-is m helper v = (both-of (helper v) (m .sessionValue v), λ h. both (helper v) (m .sessionValue v) (h .0) (h .1))
@@ -205,42 +193,32 @@ unfolding readyOf
 ready-ext m f g v e = ap (λ (b : Bool). b && m .sessionValue v) e
 
 module _ (m : Model) (ready : ℕ → Bool) where
-  pub last-able-is : (made : Bool) (o n : ℕ) → lastAble m ready made o n ≡ lastBelow (λ v. ready v && able m made o n v) 256
-  unfolding lastAble
-  last-able-is made o n = refl
+  pub last-maker-is : (n : ℕ) → lastMaker m ready n ≡ lastBelow (λ v. ready v && (m .sessionValue v && makesWith m v n)) 256
+  unfolding lastMaker
+  last-maker-is n = refl
 
-  pub asked-none : (made : Bool) (o : ℕ) (q : Found) (from : ℕ) → asked m ready made o q from 0 ≡ q
+  pub asked-none : (q : Found) → asked m ready q 0 ≡ q
   unfolding asked
-  asked-none made o q from = refl
+  asked-none q = refl
 
-  pub asked-turn : (made : Bool) (o : ℕ) (q : Found) (from n : ℕ) → asked m ready made o q from (suc n)
-      ≡ cond (unmet (m .itemValue) q n && ltb (lastAble m ready made o n) 256) (pushed (asked m ready made o q from n) n from (lastAble m ready made o n))
-      (asked m ready made o q from n)
+  pub asked-turn : (q : Found) (n : ℕ) → asked m ready q (suc n)
+      ≡ cond (unmet (m .itemValue) q n && ltb (lastMaker m ready n) 256) (pushed (asked m ready q n) n 0 (lastMaker m ready n)) (asked m ready q n)
   unfolding asked
-  asked-turn made o q from n = refl
+  asked-turn q n = refl
 
   pub offered-none : (q : Found) (i : ℕ) → offered m ready q i 0 ≡ q
   unfolding offered
   offered-none q i = refl
 
-  pub offered-turn : (q : Found) (i k : ℕ) → offered m ready q i (suc k)
-      ≡ cond (ready (255 - k) && someBelow (unmet (m .itemValue) (offered m ready q i k)) 256)
-      (spread (modifiesTo m (255 - k) (valueAt q i)) (offered m ready q i k) (i + 1) (255 - k)) (offered m ready q i k)
+  pub offered-turn : (q : Found) (i k : ℕ) → offered m ready q i (suc k) ≡ offeredBy m ready (valueAt q i) (offered m ready q i k) i k
   unfolding offered
   offered-turn q i k = refl
-
-  pub widened-is : (q : Found) (i : ℕ) → widened m ready q i
-      ≡ cond (leb (countBelow ready 256) (countBelow (unmet (m .itemValue) q) 256)) (offered m ready q i 256) (asked m ready false (valueAt q i) q (i + 1) 256)
-  unfolding widened
-  widened-is q i = refl
 
   pub grow-items-none : (q : Found) → growItems m ready q 0 ≡ q
   unfolding growItems
   grow-items-none q = refl
 
-  pub grow-items-turn : (q : Found) (i : ℕ) → growItems m ready q (suc i)
-      ≡ cond (ltb i (growItems m ready q i .len) && someBelow (unmet (m .itemValue) (growItems m ready q i)) 256) (widened m ready (growItems m ready q i) i)
-      (growItems m ready q i)
+  pub grow-items-turn : (q : Found) (i : ℕ) → growItems m ready q (suc i) ≡ itemsAt m ready (growItems m ready q i) i
   unfolding growItems
   grow-items-turn q i = refl
 
@@ -250,7 +228,7 @@ module _ (m : Model) (helper : ℕ → Bool) where
   one-is j held = refl
 
   pub any-is : (values : List ℕ) → anyFound m helper values
-      ≡ growItems m (readyOf m helper) (asked m (readyOf m helper) true 0 (startRoots values nothing (length values)) 0 256) 256
+      ≡ growItems m (readyOf m helper) (asked m (readyOf m helper) (startRoots values nothing (length values)) 256) 256
   unfolding anyFound
   any-is values = refl
 

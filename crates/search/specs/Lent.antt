@@ -2,15 +2,21 @@
 -- Assumes nothing.
 use mathlib.Core.Path.{_≡_}
 use mathlib.Core.List.{List}
-use Prim.Native.Nat.{ℕ}
-use lib.ListN.{length}
+use Prim.Native.Nat.{ℕ, _+_, _*_}
+use lib.ListN.{length, getD}
+use Rattle.bits.specs.Packed.{tab}
 use Rattle.search.specs.declared.queue.Found.{Found}
 use Rattle.search.specs.declared.queue.Head.{Head}
 
--- the queue that a head and the five arrays make
-abbrev pub foundOf : Head → List ℕ → List ℕ → List ℕ → List ℕ → List ℕ → Found
-foundOf h order from via depth place = record { seen = h .seen; order = order; from = from; via = via; depth = depth; place = place; len = h .len }
+-- 256 of the links, from place 256 * j on
+unfoldable pub part : ℕ → List ℕ → List ℕ
+part j links = tab (λ k. getD links (256 * j + k) 0) 0 256
 
--- the five arrays have room for 256 values each
-abbrev pub Long : List ℕ → List ℕ → List ℕ → List ℕ → List ℕ → Type 0
-Long order from via depth place = (length order ≡ 256) × (length from ≡ 256) × (length via ≡ 256) × (length depth ≡ 256) × (length place ≡ 256)
+-- the queue that a head, the values in order and the links make: the links are parents, what each was made by, depths, and places, 256 of each
+abbrev pub foundOf : Head → List ℕ → List ℕ → Found
+foundOf h order links =
+    record { seen = h .seen; order = order; from = part 0 links; via = part 1 links; depth = part 2 links; place = part 3 links; len = h .len }
+
+-- there is room for 256 values
+abbrev pub Long : List ℕ → List ℕ → Type 0
+Long order links = (length order ≡ 256) × (length links ≡ 1024)

@@ -2,6 +2,7 @@
 -- tied to closures by the claims.
 -- Assumes nothing.
 use mathlib.Core.Bool.{Bool, not, _&&_, cond}
+use mathlib.Core.List.{List}
 use Prim.Native.Nat.{ℕ, zero, suc, _+_, _-_, _%_}
 use lib.Dec.{ltb, leb, eqb}
 use lib.ListN.{getD, set, replicate}
@@ -21,9 +22,9 @@ nothing =
       len = 0;
     }
 
--- links from a start, of a value that is found from a place (its number plus 1) or is a start (0)
-unfoldable pub depthAfter : Found → ℕ → ℕ
-depthAfter q from = cond (eqb from 0) 0 (cond (leb 256 (from - 1)) 0 ((getD (q .depth) (from - 1) 0 + 1) % 65536))
+-- links from a start, by the depths of places, of a value that is found from a place (its number plus 1) or is a start (0)
+unfoldable pub depthAfter : List ℕ → ℕ → ℕ
+depthAfter depth from = cond (eqb from 0) 0 (cond (leb 256 (from - 1)) 0 ((getD depth (from - 1) 0 + 1) % 65536))
 
 -- y at the end, where there is room
 unfoldable pub pushed : Found → ℕ → ℕ → ℕ → Found
@@ -34,7 +35,7 @@ pushed q y from via =
       order = set (q .order) (q .len) y;
       from = set (q .from) (q .len) from;
       via = set (q .via) (q .len) via;
-      depth = set (q .depth) (q .len) (depthAfter q from);
+      depth = set (q .depth) (q .len) (depthAfter (q .depth) from);
       place = set (q .place) y (q .len + 1);
       len = q .len + 1;
     }

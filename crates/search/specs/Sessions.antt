@@ -10,12 +10,14 @@ use Rattle.runs.specs.Edge.{opensWith, changesTo}
 use Rattle.search.specs.Queue.{nothing, pushed, unmet, spread}
 use Rattle.search.specs.declared.queue.Found.{Found}
 
--- from the places below i, as far as there are so many, while some value of the lists isn't found yet
+-- from place i, if there is one, while some value of the lists isn't found yet
+abbrev pub grownAt : (ℕ → Bool) → (ℕ → ℕ → Bool) → Found → ℕ → Found
+grownAt within edge q i = cond (ltb i (q .len) && someBelow (unmet within q) 256) (spread (edge (getD (q .order) i 0)) q (i + 1) 0) q
+
+-- from the places below i
 unfoldable pub growTo : (ℕ → Bool) → (ℕ → ℕ → Bool) → Found → ℕ → Found
 growTo within edge q zero = q
-growTo within edge q (suc i) =
-    let r = growTo within edge q i in
-    cond (ltb i (r .len) && someBelow (unmet within r) 256) (spread (edge (getD (r .order) i 0)) r (i + 1) 0) r
+growTo within edge q (suc i) = grownAt within edge (growTo within edge q i) i
 
 -- sessions of user u
 unfoldable pub sessionsFound : Model → ℕ → Found

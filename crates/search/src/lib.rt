@@ -1,4 +1,2 @@
-// Searches: the values that sessions and items can come to have, each with the way it was found.
-pub mod items;
+// Values found, each with the way it was found. The searches themselves are crates of their own: session_search and item_search.
 pub mod queue;
-pub mod sessions;

@@ -47,15 +47,15 @@ module _ (c : Lists) (h : ℕ) where
 pub shifted : (w : ℕ) → w < 8 → ((1 * 2 ^ w) % 2 ^ 64 ≡ 2 ^ w) × (0 < 2 ^ w) × (2 ^ w ≤ 256)
 shifted w l = (shl-exact {a = 1} 1 w 64 (omega arith) (omega arith) ∙ omega arith, pow-pos w, pow-mono {j = 8} (omega arith))
 
-module _ (c : Lists) (nodes : List ℕ) (L R O : ℕ) where
-  pub rows-both : (lanes rows outer : Bool) → lanes && rows ≡ true → rowsFor c nodes L R O lanes rows outer ≡ roomOf c R
+module _ (c : Lists) (L R O : ℕ) where
+  pub rows-both : (lanes rows outer : Bool) → lanes && rows ≡ true → rowsFor c L R O lanes rows outer ≡ roomOf c R
   unfolding rowsFor rowFor
   rows-both true true outer e = refl
   rows-both true false outer e = absurd (true≢false (sym e))
   rows-both false rows outer e = absurd (true≢false (sym e))
 
   pub rows-outer : (lanes rows outer : Bool) → lanes && rows ≡ false → outer && (lanes || rows) ≡ true
-      → rowsFor c nodes L R O lanes rows outer ≡ roomOf c O
+      → rowsFor c L R O lanes rows outer ≡ roomOf c O
   unfolding rowsFor rowFor
   rows-outer true true outer e d = absurd (true≢false e)
   rows-outer true false true e d = refl
@@ -65,7 +65,7 @@ module _ (c : Lists) (nodes : List ℕ) (L R O : ℕ) where
   rows-outer false rows false e d = absurd (true≢false (sym d))
 
   pub rows-one : (lanes rows outer : Bool) → lanes && rows ≡ false → outer && (lanes || rows) ≡ false
-      → rowsFor c nodes L R O lanes rows outer ≡ 1
+      → rowsFor c L R O lanes rows outer ≡ 1
   unfolding rowsFor rowFor
   rows-one true true outer e d = absurd (true≢false e)
   rows-one true false true e d = absurd (true≢false d)
@@ -75,7 +75,7 @@ module _ (c : Lists) (nodes : List ℕ) (L R O : ℕ) where
   rows-one false true false e d = refl
 
   pub rows-few : (room : ℕ) → 0 < room → roomOf c R ≤ room → roomOf c O ≤ room → (lanes rows outer : Bool)
-      → rowsFor c nodes L R O lanes rows outer ≤ room
+      → rowsFor c L R O lanes rows outer ≤ room
   unfolding rowsFor rowFor
   rows-few room z f g true true outer = f
   rows-few room z f g true false true = g
@@ -100,13 +100,13 @@ module _ (room : ℕ) where
   table-is k = refl
 
 -- the rows of a node's table are those of the leaf
-module _ (c : Lists) (nodes : List ℕ) (L R O : ℕ) (lanes rows outer : Bool) (node base : ℕ) where
-  pub table-none : (t : List ℕ) → opOf node < 5 → Table c nodes L R O lanes rows outer node base t t
+module _ (c : Lists) (L R O : ℕ) (lanes rows outer : Bool) (node base : ℕ) where
+  pub table-none : (t : List ℕ) → opOf node < 5 → Table c L R O lanes rows outer node base t t
   table-none t l = record { kept = λ a v p h. refl; each = λ i v h o p. absurd (omega (arith, l, o)) }
 
-  pub table-filled : (count a b : ℕ) (old new : List ℕ) → count ≡ rowsFor c nodes L R O lanes rows outer → a ≡ laneFor L R O lanes rows
+  pub table-filled : (count a b : ℕ) (old new : List ℕ) → count ≡ rowsFor c L R O lanes rows outer → a ≡ laneFor L R O lanes rows
       → b ≡ rowFor L R O lanes rows → Rows (putFrom base count (leaf c a b node) (bitAt old)) new
-      → Table c nodes L R O lanes rows outer node base old new
+      → Table c L R O lanes rows outer node base old new
   table-filled count a b old new m p q F =
       record {
         kept = λ r v l h. F .each r v h ∙ putFrom-before base count (leaf c a b node) (bitAt old) r v l;
@@ -115,22 +115,22 @@ module _ (c : Lists) (nodes : List ℕ) (L R O : ℕ) (lanes rows outer : Bool) 
             ∙ ap (λ (j : ℕ). leaf c a b node j v) (omega arith) ∙ ap₂ (λ (x y : ℕ). leaf c x y node i v) p q;
       }
 
-module _ (c : Lists) (nodes : List ℕ) (L R O : ℕ) (lanes rows outer : List Bool) (node : ℕ → ℕ) (room : ℕ) where
-  pub tables-start : (t : List ℕ) → Tables c nodes L R O lanes rows outer node room 0 t t
+module _ (c : Lists) (L R O : ℕ) (lanes rows outer : List Bool) (node : ℕ → ℕ) (room : ℕ) where
+  pub tables-start : (t : List ℕ) → Tables c L R O lanes rows outer node room 0 t t
   tables-start t = record { kept = λ a v p h. refl; each = λ k i v l h o p. absurd (omega arith) }
 
   -- the table of node k says what its comparison says
   abbrev Said : List ℕ → ℕ → ℕ → ℕ → Type 0
   Said t i v k =
-      5 ≤ opOf (node k) → i < rowsFor c nodes L R O (getD lanes k false) (getD rows k false) (getD outer k false)
+      5 ≤ opOf (node k) → i < rowsFor c L R O (getD lanes k false) (getD rows k false) (getD outer k false)
       → bitAt t (tableAt room k + i) v
       ≡ leaf c (laneFor L R O (getD lanes k false) (getD rows k false)) (rowFor L R O (getD lanes k false) (getD rows k false)) (node k) i v
 
   -- one table more
   pub tables-more : (n base x : ℕ) (first old new : List ℕ) → base ≡ 193 + n * room → x ≡ node n → 0 < room → roomOf c R ≤ room → roomOf c O ≤ room
-      → Tables c nodes L R O lanes rows outer node room n first old
-      → Table c nodes L R O (getD lanes n false) (getD rows n false) (getD outer n false) x base old new
-      → Tables c nodes L R O lanes rows outer node room (n + 1) first new
+      → Tables c L R O lanes rows outer node room n first old
+      → Table c L R O (getD lanes n false) (getD rows n false) (getD outer n false) x base old new
+      → Tables c L R O lanes rows outer node room (n + 1) first new
   tables-more n base x first old new e d z f g T N =
       record {
         kept = λ a v p h. N .kept a v (omega (arith, e)) h ∙ T .kept a v p h;
@@ -146,6 +146,6 @@ module _ (c : Lists) (nodes : List ℕ) (L R O : ℕ) (lanes rows outer : List B
 
       go : (k i v : ℕ) → k < n + 1 → v < 256 → Dec (k < n) → Said new i v k
       go k i v l h (yes q) o p =
-          let few = rows-few c nodes L R O room z f g (getD lanes k false) (getD rows k false) (getD outer k false) in
+          let few = rows-few c L R O room z f g (getD lanes k false) (getD rows k false) (getD outer k false) in
           N .kept (tableAt room k + i) v (omega (arith, e, table-is room k, times-later room k n q, p, few)) h ∙ T .each k i v q h o p
       go k i v l h (no q) o p = let m : n ≡ k = omega arith in subst (Said new i v) m (last i v h) o p

@@ -14,14 +14,14 @@ use Rattle.prepared.specs.Prepared.{tableAt, laneFor, rowFor, rowsFor}
 
 -- the table of one node, which depends on the holders that the three flags tell of, begins at row base; the rows before it stay. A node that joins
 -- others has none
-pub record Table (c : Lists) (nodes : List ℕ) (L R O : ℕ) (lanes rows outer : Bool) (node base : ℕ) (old new : List ℕ) : Type 0 where
+pub record Table (c : Lists) (L R O : ℕ) (lanes rows outer : Bool) (node base : ℕ) (old new : List ℕ) : Type 0 where
   pub kept : (a v : ℕ) → a < base → v < 256 → bitAt new a v ≡ bitAt old a v
-  pub each : (i v : ℕ) → v < 256 → 5 ≤ opOf node → i < rowsFor c nodes L R O lanes rows outer
+  pub each : (i v : ℕ) → v < 256 → 5 ≤ opOf node → i < rowsFor c L R O lanes rows outer
       → bitAt new (base + i) v ≡ leaf c (laneFor L R O lanes rows) (rowFor L R O lanes rows) node i v
 
 -- the tables of the first n nodes; the rows of the boards stay
-pub record Tables (c : Lists) (nodes : List ℕ) (L R O : ℕ) (lanes rows outer : List Bool) (node : ℕ → ℕ) (room n : ℕ) (old new : List ℕ) : Type 0 where
+pub record Tables (c : Lists) (L R O : ℕ) (lanes rows outer : List Bool) (node : ℕ → ℕ) (room n : ℕ) (old new : List ℕ) : Type 0 where
   pub kept : (a v : ℕ) → a < 193 → v < 256 → bitAt new a v ≡ bitAt old a v
-  pub each : (k i v : ℕ) → k < n → v < 256 → 5 ≤ opOf (node k) → i < rowsFor c nodes L R O (getD lanes k false) (getD rows k false) (getD outer k false)
+  pub each : (k i v : ℕ) → k < n → v < 256 → 5 ≤ opOf (node k) → i < rowsFor c L R O (getD lanes k false) (getD rows k false) (getD outer k false)
       → bitAt new (tableAt room k + i) v
       ≡ leaf c (laneFor L R O (getD lanes k false) (getD rows k false)) (rowFor L R O (getD lanes k false) (getD rows k false)) (node k) i v

@@ -1,6 +1,5 @@
 // The tables of a formula's comparisons.
 ghost use mathlib.Core.Path.{_≡_};
-ghost use mathlib.Core.List.{List};
 ghost use Prim.Native.Nat.{ℕ, _+_, _*_, _≤_, _<_};
 ghost use lib.ListN.{length, getD};
 ghost use Rattle.policy.specs.Policy.{Lists, width};
@@ -9,6 +8,7 @@ ghost use Rattle.policy.specs.Rules.{listsOf};
 ghost use Rattle.prepared.specs.Prepared.{tableAt, roomOf, laneFor, rowFor, rowsFor};
 ghost use Rattle.tables.specs.Tables.{Table, Tables};
 use leaves::fill;
+use planes::class_of;
 use policy::Classes;
 use policy::shape::class_width;
 
@@ -16,13 +16,7 @@ use policy::shape::class_width;
 fn width_of(classes: Classes, h: u8) -> usize
     ensures { λ r. ⌜ r ≡ width (ofHolder (listsOf classes) h) ⌝ }
 {
-    if h == 0 {
-        return class_width(classes.user);
-    }
-    if h <= 2 {
-        return class_width(classes.session);
-    }
-    class_width(classes.item)
+    class_width(class_of(classes, h))
 }
 
 // How many packed values of holder h are told apart.
@@ -70,7 +64,7 @@ fn row_for(lane: u8, row: u8, outer: u8, onlane: bool, onrow: bool) -> u8
 
 // How many rows it has, by how many values of the row holder and of the outer holder are told apart.
 fn rows_for(rows: usize, outers: usize, onlane: bool, onrow: bool, onouter: bool) -> usize
-    ensures { λ r. ⌜ ((c : Lists) (nodes : List ℕ) (L R O : ℕ) → rows ≡ roomOf c R → outers ≡ roomOf c O → r ≡ rowsFor c nodes L R O onlane onrow onouter) ⌝ }
+    ensures { λ r. ⌜ ((c : Lists) (L R O : ℕ) → rows ≡ roomOf c R → outers ≡ roomOf c O → r ≡ rowsFor c L R O onlane onrow onouter) ⌝ }
 {
     if onlane & onrow {
         return rows;
@@ -99,7 +93,7 @@ fn table(
 )
     requires { ⌜ (0 < room) × (room ≤ 256) × (rows ≤ room) × (outers ≤ room) × (4 * (base + room) ≤ length (now area)) ⌝ }
     requires { ⌜ (rows ≡ roomOf (listsOf classes) row) × (outers ≡ roomOf (listsOf classes) outer) ⌝ }
-    ensures { λ _. ⌜ ((nodes : List ℕ) → Table (listsOf classes) nodes lane row outer onlane onrow onouter node base (now (area .entry)) (now (area .exit))) ⌝ }
+    ensures { λ _. ⌜ Table (listsOf classes) lane row outer onlane onrow onouter node base (now (area .entry)) (now (area .exit)) ⌝ }
     ensures { λ _. ⌜ length (now (area .exit)) ≡ length (now (area .entry)) ⌝ }
 {
     if node / 65536 < 5 {
@@ -131,7 +125,7 @@ pub fn fill_tables(
     requires { ⌜ (n ≤ 64) × (n ≤ length (now onlane)) × (n ≤ length (now onrow)) × (n ≤ length (now onouter)) ⌝ }
     requires { ⌜ (0 < room) × (room ≤ 256) × (rows ≤ room) × (outers ≤ room) × (4 * (193 + 64 * room) ≤ length (now area)) ⌝ }
     requires { ⌜ (rows ≡ roomOf (listsOf classes) row) × (outers ≡ roomOf (listsOf classes) outer) ⌝ }
-    ensures { λ _. ⌜ ((l : List ℕ) → Tables (listsOf classes) l lane row outer (now (onlane .entry)) (now (onrow .entry)) (now (onouter .entry)) (λ k. getD (now (nodes .entry)) (64 * f + k) 0) room n (now (area .entry)) (now (area .exit))) ⌝ }
+    ensures { λ _. ⌜ Tables (listsOf classes) lane row outer (now (onlane .entry)) (now (onrow .entry)) (now (onouter .entry)) (λ k. getD (now (nodes .entry)) (64 * f + k) 0) room n (now (area .entry)) (now (area .exit)) ⌝ }
     ensures { λ _. ⌜ length (now (area .exit)) ≡ length (now (area .entry)) ⌝ }
 {
     for k in 0..n {

@@ -1,14 +1,13 @@
--- Laws of what the users' searches find together. In order: the searches of all users; what some user can have; who is named for a session value;
--- pairs. Not here: starting sessions (Starts), what sessions can have (UsersReach).
+-- Laws of what the users' searches find together. In order: what a loop over the users fills; the searches of all users; what some user can have; who is
+-- named for a session value; pairs. Not here: starting sessions (Starts), what sessions can have (UsersReach).
 use mathlib.Core.Path.{_≡_, refl, sym, ap, _∙_, subst}
 use mathlib.Core.Bool.{Bool, true, false, not, _&&_, _||_, cond}
 use mathlib.Core.List.{List}
-use mathlib.Core.Logic.{_⊎_, inl, inr, ⊎-elim}
 use Prim.Native.Nat.{ℕ, _+_, _-_, _≤_, _<_}
-use native.Mathlib.Decide.{ℕ-discrete, decLt}
+use native.Mathlib.Decide.{ℕ-discrete}
 use native.Mathlib.Numerals.{add-one}
 use native.Mathlib.Omega.{arith}
-use borrow.Author.Tests.{lt-ltb, le-ltb, ne-eqb}
+use borrow.Author.Tests.{ne-eqb}
 use lib.Dec.{ltb, eqb}
 use lib.ListN.{length, getD, set, replicate, length-set, length-replicate, getD-replicate}
 use lib.Seq.{ext-getD, getD-set-same, getD-set-other}
@@ -24,53 +23,25 @@ use Rattle.search.proofs.Theorems.{sessions-are-searched}
 use Rattle.leak.specs.Standing.{named}
 use Rattle.user_searches.specs.Found.{userFound, UsersFound, anyHas, Names, nameAfter, foundPairs}
 
--- the searches of the users below u are there
-pub record Searching (m : Model) (n : ℕ) (users : List Found) (u : ℕ) : Type 0 where
-  pub long : length users ≡ 16
-  pub before : (k : ℕ) → k < u → userFound users k ≡ cond (ltb k n) (sessionsFound m k) nothing
-  pub after : (k : ℕ) → u ≤ k → k < 16 → userFound users k ≡ nothing
+-- of 16 places, those below u have what P says
+pub record Filled {A : Type 0} (d : A) (P : ℕ → A → Type 0) (xs : List A) (u : ℕ) : Type 0 where
+  pub long : length xs ≡ 16
+  pub each : (k : ℕ) → k < u → P k (getD xs k d)
 
-module _ (m : Model) (n : ℕ) where
-  pub searching-none : (q : Found) → q ≡ nothing → Searching m n (replicate 16 q) 0
-  searching-none q e =
+module _ {A : Type 0} {d : A} {P : ℕ → A → Type 0} where
+  pub filled-none : (x : A) → Filled d P (replicate 16 x) 0
+  filled-none x = record { long = length-replicate 16 x; each = λ k h. absurd (omega arith) }
+
+  pub filled-more : (xs : List A) (u : ℕ) (x : A) → u < 16 → Filled d P xs u → P u x → Filled d P (set xs u x) (u + 1)
+  filled-more xs u x h s is =
       record {
-        long = length-replicate 16 q;
-        before = λ k h. absurd (omega arith);
-        after = λ k h l. getD-replicate 16 k q nothing l ∙ e;
+        long = length-set xs u x ∙ s .long;
+        each = λ k l. go k l (ℕ-discrete k u);
       }
-
-  module _ (users : List Found) (u : ℕ) (h : u < 16) (s : Searching m n users u) where
-    pub searching-stays : n ≤ u → Searching m n users (u + 1)
-    searching-stays l =
-        record {
-          long = s .long;
-          before = λ k b. ⊎-elim (λ (e : k ≡ u). let x : n ≤ k = omega arith in s .after k (omega arith) (omega arith) ∙ sym (ap (λ (t : Bool). cond t (sessionsFound m k) nothing) (le-ltb k n x))) (λ (b′ : k < u). s .before k b′) (last k u b);
-          after = λ k a b. s .after k (omega arith) b;
-        }
-      where
-        last : (k u : ℕ) → k < u + 1 → (k ≡ u) ⊎ (k < u)
-        last k u b = elim (decLt k u) [ yes l ↦ inr l | no g ↦ inl (omega arith) ]
-
-    pub searching-more : (q : Found) → u < n → q ≡ sessionsFound m u → Searching m n (set users u q) (u + 1)
-    searching-more q l e =
-        record {
-          long = length-set users u q ∙ s .long;
-          before = λ k b. go k b (ℕ-discrete k u);
-          after = λ k a b. getD-set-other users u k q nothing (λ e. omega arith) ∙ s .after k (omega arith) b;
-        }
-      where
-        go : (k : ℕ) → k < u + 1 → Dec (k ≡ u) → userFound (set users u q) k ≡ cond (ltb k n) (sessionsFound m k) nothing
-        go k b (yes i) =
-            ap (userFound (set users u q)) i ∙ getD-set-same users u q nothing (omega (arith, s .long)) ∙ e
-            ∙ sym (ap (λ (j : ℕ). cond (ltb j n) (sessionsFound m j) nothing) i ∙ ap (λ (t : Bool). cond t (sessionsFound m u) nothing) (lt-ltb u n l))
-        go k b (no d) = getD-set-other users u k q nothing d ∙ s .before k (omega arith)
-
-  pub searching-all : (users : List Found) (u : ℕ) → 16 ≤ u → m .users ≡ n → Searching m n users u → UsersFound m users
-  searching-all users u h e s =
-      record {
-        long = s .long;
-        each = λ k l. s .before k (omega arith) ∙ ap (λ (j : ℕ). cond (ltb k j) (sessionsFound m k) nothing) (sym e);
-      }
+    where
+      go : (k : ℕ) → k < u + 1 → Dec (k ≡ u) → P k (getD (set xs u x) k d)
+      go k l (yes i) = subst (λ (j : ℕ). P j (getD (set xs u x) j d)) (sym i) (subst (P u) (sym (getD-set-same xs u x d (omega (arith, s .long)))) is)
+      go k l (no n) = subst (P k) (sym (getD-set-other xs u k x d n)) (s .each k (omega arith))
 
 -- a search of a user has found at most 256 values
 pub users-few : (m : Model) (users : List Found) → UsersFound m users → (u : ℕ) → u < 16 → userFound users u .len ≤ 256

@@ -6,9 +6,11 @@ use mathlib.Core.List.{List, [], _∷_}
 use Prim.Native.Nat.{ℕ, zero, suc, _+_, _-_, _≤_, _<_}
 use lib.Dec.{ltb, eqb}
 use lib.ListN.{length, getD}
-use Rattle.lanes.specs.Lanes.{laneOf, someBelow}
+use Rattle.lanes.specs.Lanes.{laneOf, Lanes, someBelow}
 use Rattle.policy.specs.Policy.{Session}
 use Rattle.runs.specs.Model.{Model}
+use Rattle.allowed.specs.Basis.{modelBy}
+use Rattle.allowed.specs.declared.Basis.{Basis}
 use Rattle.search.specs.Queue.{nothing}
 use Rattle.search.specs.Sessions.{sessionsFound}
 use Rattle.search.specs.declared.queue.Found.{Found}
@@ -17,6 +19,15 @@ use Rattle.leak.specs.Standing.{named}
 -- the search of user u, of the searches of all users
 abbrev pub userFound : List Found → ℕ → Found
 userFound users u = getD users u nothing
+
+-- user u may open a session with value v, which is in the lists
+abbrev pub opensIn : Basis → List ℕ → ℕ → ℕ → Bool
+opensIn b nodes u v = laneOf (b .sessions) v && (ltb u (modelBy b nodes .users) && modelBy b nodes .mayOpen u v)
+
+-- the session values that each of the first 16 users may open a session with
+pub record Opened (b : Basis) (nodes : List ℕ) (rows : List (List ℕ)) : Type 0 where
+  pub long : length rows ≡ 16
+  pub each : (u : ℕ) → u < 16 → Lanes (opensIn b nodes u) (getD rows u [])
 
 -- the searches of the model's users, of the first 16
 pub record UsersFound (m : Model) (users : List Found) : Type 0 where

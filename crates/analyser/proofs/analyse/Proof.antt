@@ -1,15 +1,19 @@
--- `analyser::analyse` meets its contract: each refusal is the first that the definition gives; a question that is decided gets its verdict, counts
--- and leak by the searches, which are the closures of what runs can do.
-use mathlib.Core.Path.{_∙_, subst}
+-- `analyser::analyse` meets its contract: the file's number is given where it has one; else an area is lent that is enough for the widths of the classes.
+use mathlib.Core.Path.{_≡_}
+use mathlib.Core.List.{List}
+use Prim.Native.Nat.{ℕ, _+_, _*_, _^_, _≤_}
 use native.Mathlib.Omega.{arith}
+use lib.ListN.{length}
 use Rattle.policy.specs.Rules.{policyOf}
+use Rattle.rules.specs.Answers.{reading, rules}
 use Rattle.rules.proofs.Laws.{was-accepted, was-refused}
-use Rattle.live.proofs.Laws.{held, denied}
+use Rattle.lists.specs.Sound.{Sound}
+use Rattle.allowed.specs.Basis.{BasisOf}
+use Rattle.allowed.specs.Scratch.{Scratch}
+use Rattle.allowed.specs.declared.Basis.{Basis}
+use Rattle.allowed.proofs.ScratchLaws.{scratch-wide, scratch-any}
 use Rattle.steps.proofs.Files.{file-sound}
-use Rattle.replay.specs.declared.question.Question.{Question}
-use Rattle.analyser.specs.Decide.{DecidedBy}
-use Rattle.analyser.proofs.Decides.{decided-means, refused-file-is-told, refused-sessions-is-told, refused-question-is-told, refused-room-is-told, rowsFor-needed}
-use Rattle.user_searches.proofs.Laws.{users-few}
+use Rattle.analyser.proofs.Decides.{refused-file-is-told}
 use Rattle.analyser.proofs.Refusals.{gives-number}
 use borrow.Author.Needs.{needs}
 use Rattle.analyser.proofs.analyse.Statement.{statement}
@@ -34,90 +38,66 @@ returns c =
 enum-told : tie.Need-enum-told
 enum-told c = search needs
 
-basis-of-requires : tie.Need-basis-of-requires
-basis-of-requires c κs = search needs
+widest-requires : tie.Need-widest-requires
+widest-requires c κs = search needs
 
-search-users-requires : tie.Need-search-users-requires
-search-users-requires c κs = search needs
+-- the rules were read, and an area is enough for them
+module _ (w : tie.After-widest) where
+  accepted : reading (w .before .before .before .before .before .before .before .before .args .file .now) ≡ rules (policyOf (w .before .before .before .before .read-rules .result .rules))
+  accepted =
+      let q = w .before .before .before .before .read-rules in
+      was-accepted (w .before .before .before .before .before .before .before .before .args .file .now) (q .result .answer) (policyOf (q .result .rules)) (q .ensures .0) (w .before .enum-told .given .1)
 
-starts-brought-requires : tie.Need-starts-brought-requires
-starts-brought-requires c κs = search needs
+  sound : Sound (policyOf (w .before .before .before .before .read-rules .result .rules))
+  sound = file-sound _ _ accepted
 
-refused-requires-2 : tie.Need-refused-requires-2
-refused-requires-2 c κs = search needs
+  enough : (n : ℕ) → w .widest .result ≤ n → (area : List ℕ) → 4 * (193 + 64 * 2 ^ n) ≤ length area
+      → (b : Basis) (steps : List ℕ) → BasisOf (w .before .before .before .before .read-rules .result .rules) b → 192 ≤ length steps → Scratch b steps area
+  enough n narrow area large b steps B long =
+      let (u, s, i) = w .widest .ensures in
+      scratch-wide _ b steps area n B sound (omega (arith, u)) (omega (arith, s)) (omega (arith, i)) long large
 
-returns-2 : tie.Need-returns-2
-returns-2 c =
-    let t = c .before .before .before .before .before in
-    let q = t .before .before .before .read-rules in
-    let a = t .before .before .before .before .before .before .before .args in
-    let e = was-accepted (a .file .now) (q .result .answer) (policyOf (q .result .rules)) (q .ensures .0) (t .enum-told .given .1) in
-    let found = c .before .before .before .search-users .ensures in
-    gives-number _ _ _ _ _ (c .refused2 .ensures)
-    (refused-sessions-is-told _ _ _ (q .result .rules) _ e found (denied (c .before .before .starts-brought .ensures) (c .before .if1 .taken)))
+slice-aggregate-answer-in : tie.Need-slice-aggregate-answer-in
+slice-aggregate-answer-in c = search needs
 
-asks-requires : tie.Need-asks-requires
-asks-requires c κs = search needs
-
-refused-requires-3 : tie.Need-refused-requires-3
-refused-requires-3 c κs = search needs
-
-returns-3 : tie.Need-returns-3
-returns-3 c =
-    let t = c .before .before .before .before .before .before .before in
-    let q = t .before .before .before .read-rules in
-    let a = t .before .before .before .before .before .before .before .args in
-    let e = was-accepted (a .file .now) (q .result .answer) (policyOf (q .result .rules)) (q .ensures .0) (t .enum-told .given .1) in
-    let found = c .before .before .before .before .before .search-users .ensures in
-    let brought = held (c .before .before .before .before .starts-brought .ensures) (c .before .before .before .if1 .left) in
-    gives-number _ _ _ _ _ (c .refused3 .ensures)
-    (refused-question-is-told _ _ _ (q .result .rules) _ e found brought (denied (c .before .before .asks .ensures) (c .before .if2 .taken)))
-
-rows-needed-requires : tie.Need-rows-needed-requires
-rows-needed-requires c κs = search needs
-
-refused-requires-4 : tie.Need-refused-requires-4
-refused-requires-4 c κs = search needs
-
-returns-4 : tie.Need-returns-4
-returns-4 c =
-    let t = c .before .before .before .before .before .before .before .before .before in
-    let q = t .before .before .before .read-rules in
-    let a = t .before .before .before .before .before .before .before .args in
-    let e = was-accepted (a .file .now) (q .result .answer) (policyOf (q .result .rules)) (q .ensures .0) (t .enum-told .given .1) in
-    let found = c .before .before .before .before .before .before .before .search-users .ensures in
-    let brought = held (c .before .before .before .before .before .before .starts-brought .ensures) (c .before .before .before .before .before .if1 .left) in
-    let asked = held (c .before .before .before .before .asks .ensures) (c .before .before .before .if2 .left) in
-    let need = c .before .before .rows-needed .ensures ∙ rowsFor-needed (q .result .rules) (file-sound (a .file .now) (policyOf (q .result .rules)) e) in
-    gives-number _ _ _ _ _ (c .refused4 .ensures)
-    (refused-room-is-told _ _ _ (q .result .rules) _ e found brought asked (omega (arith, need, c .before .if3 .taken)))
-
-of-requires : tie.Need-of-requires
-of-requires c κs = search needs
-
-decide-requires : tie.Need-decide-requires
-decide-requires c κs = (
-  users-few _ _ (c .before .before .before .before .before .before .before .before .search-users .ensures),
-  c .before .before .before .before .before .before .before .before .before .basis-of .ensures,
-)
+answer-in-requires : tie.Need-answer-in-requires
+answer-in-requires c κs =
+    let w = c .before .before .before in
+    (accepted w, enough w 2 (c .before .before .if1 .taken) _ (omega arith))
 
 same-length : tie.Need-same-length
 same-length c = search needs
 
-returns-5 : tie.Need-returns-5
-returns-5 c =
-    let t = c .before .before .before .before .before .before .before .before .before .before .before .before .before in
-    let q = t .before .before .before .read-rules in
-    let a = t .before .before .before .before .before .before .before .args in
-    let e = was-accepted (a .file .now) (q .result .answer) (policyOf (q .result .rules)) (q .ensures .0) (t .enum-told .given .1) in
-    let found = c .before .before .before .before .before .before .before .before .before .before .before .search-users .ensures in
-    let brought = held (c .before .before .before .before .before .before .before .before .before .before .starts-brought .ensures) (c .before .before .before .before .before .before .before .before .before .if1 .left) in
-    let asked = held (c .before .before .before .before .before .before .before .before .asks .ensures) (c .before .before .before .before .before .before .before .if2 .left) in
-    let need = c .before .before .before .before .before .before .rows-needed .ensures ∙ rowsFor-needed (q .result .rules) (file-sound (a .file .now) (policyOf (q .result .rules)) e) in
-    decided-means (a .file .now) (a .question .now) (a .rows .now) _ (q .result .rules) _ _ e found brought asked
-    (omega (arith, need, c .before .before .before .before .before .if3 .left))
-    (subst (λ (x : Question). DecidedBy (q .result .rules) (c .before .before .before .before .before .before .before .before .before .before .before .search-users .result) x (a .rows .now) (c .before .before .decide .last .1 .1 .1 .0) (c .before .before .decide .result))
-    (c .before .before .before .before .of .ensures) (c .before .before .decide .ensures))
+returns-2 : tie.Need-returns-2
+returns-2 c = c .before .before .before .answer-in .ensures
+
+slice-aggregate-answer-in-2 : tie.Need-slice-aggregate-answer-in-2
+slice-aggregate-answer-in-2 c = search needs
+
+answer-in-requires-2 : tie.Need-answer-in-requires-2
+answer-in-requires-2 c κs =
+    let w = c .before .before .before .before in
+    (accepted w, enough w 5 (c .before .before .if2 .taken) _ (omega arith))
+
+same-length-2 : tie.Need-same-length-2
+same-length-2 c = search needs
+
+returns-3 : tie.Need-returns-3
+returns-3 c = c .before .before .before .answer-in2 .ensures
+
+slice-aggregate-answer-in-3 : tie.Need-slice-aggregate-answer-in-3
+slice-aggregate-answer-in-3 c = search needs
+
+answer-in-requires-3 : tie.Need-answer-in-requires-3
+answer-in-requires-3 c κs =
+    let w = c .before .before .before .before in
+    (accepted w, λ b steps B long. scratch-any _ b steps _ B (sound w) long (search needs))
+
+same-length-3 : tie.Need-same-length-3
+same-length-3 c = search needs
+
+returns-4 : tie.Need-returns-4
+returns-4 c = c .before .before .before .answer-in3 .ensures
 
 pub analyse-spec : {M : Type 1} → statement M
 analyse-spec =
@@ -128,18 +108,16 @@ analyse-spec =
     refused-requires
     returns
     enum-told
-    basis-of-requires
-    search-users-requires
-    starts-brought-requires
-    refused-requires-2
-    returns-2
-    asks-requires
-    refused-requires-3
-    returns-3
-    rows-needed-requires
-    refused-requires-4
-    returns-4
-    of-requires
-    decide-requires
+    widest-requires
+    slice-aggregate-answer-in
+    answer-in-requires
     same-length
-    returns-5)
+    returns-2
+    slice-aggregate-answer-in-2
+    answer-in-requires-2
+    same-length-2
+    returns-3
+    slice-aggregate-answer-in-3
+    answer-in-requires-3
+    same-length-3
+    returns-4)

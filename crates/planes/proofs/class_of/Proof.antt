@@ -2,7 +2,6 @@
 use borrow.Author.Tests.{eq-eqb, ne-eqb, le-leb, lt-leb}
 use Rattle.policy.specs.Rules.{listsOf}
 use Rattle.policy.specs.Nodes.{ofHolder}
-use borrow.Author.Needs.{needs}
 use Rattle.planes.proofs.class_of.Statement.{statement}
 use Rattle.planes.proofs.class_of.Tie as tie
 

@@ -104,7 +104,7 @@ returns c =
       prepared-of (listsOf (a .classes)) (a .nodes .now) (a .f) (a .lane) (a .row) (a .outer) (a .n) (g .larger .result) (x .result) (y .result)
           (a .onlane .now) (a .onrow .now) (a .onouter .now) (s .pre .1 .0) (d .0) (d .1 .0) (d .1 .1) (s .pre .0 .0) (w .0)
           (x .ensures .0) (y .ensures .0) (x .ensures .1 .0) (y .ensures .1 .0) (l .0) (l .1) (e .last .0) (t .last .0) (o .last .0) _
-          (stored-none _ _ _ (first .before .none .ensures) (e .ensures .0)) (t .ensures .0 _) (o .ensures .0)
+          (stored-none _ _ _ (first .before .none .ensures) (e .ensures .0)) (t .ensures .0) (o .ensures .0)
           (m .result .across) (m .result .board) (m .result .row) (m .ensures .0)
           (omega (arith, m .ensures .1, o .ensures .1 .1, s .pre)) (omega (arith, w, e .ensures .1, t .ensures .1, o .ensures .1 .0)),
       (m .ensures .1 ∙ o .ensures .1 .1, o .ensures .1 .0 ∙ t .ensures .1 ∙ e .ensures .1),

@@ -1,6 +1,5 @@
 -- `tables::fill_tables` meets its contract. The invariant: the tables of the first k nodes are right. The measure is how many nodes are left.
 use mathlib.Core.Path.{_≡_, refl, _∙_, subst}
-use mathlib.Core.List.{List}
 use Prim.Native.Nat.{ℕ, _+_, _*_, _-_, _≤_}
 use native.Mathlib.Omega.{arith}
 use lib.ListN.{length, getD}
@@ -14,13 +13,13 @@ use Rattle.tables.proofs.fill_tables.Tie as tie
 abbrev Inv-loop : tie.InvT-loop
 Inv-loop area₀ classes lane row outer rows outers nodes f n onlane onrow onouter room k₀ area k =
     (k ≤ n) × (length area ≡ length area₀)
-    × ((l : List ℕ) → Tables (listsOf classes) l lane row outer onlane onrow onouter (λ j. getD nodes (64 * f + j) 0) room k area₀ area)
+    × Tables (listsOf classes) lane row outer onlane onrow onouter (λ j. getD nodes (64 * f + j) 0) room k area₀ area
 
 abbrev μ-loop : tie.MeasureT-loop
 μ-loop area₀ classes lane row outer rows outers nodes f n onlane onrow onouter room k₀ area k = n - k
 
 loop-holds : tie.Need-loop-holds Inv-loop μ-loop
-loop-holds c = (search needs, search needs, λ l. tables-start _ _ _ _ _ _ _ _ _ _ _)
+loop-holds c = (search needs, search needs, tables-start _ _ _ _ _ _ _ _ _ _)
 
 at-requires : tie.Need-at-requires Inv-loop μ-loop
 at-requires c κs = search needs
@@ -64,9 +63,9 @@ loop-again c =
     let w = c .before .before .table .ensures in (
       search needs,
       w .1 ∙ l .inv .1,
-      λ ns. tables-more (listsOf (a .classes)) ns (a .lane) (a .row) (a .outer) _ _ _ _ (a .room) (l .k) _ _ _ _ _ refl
+      tables-more (listsOf (a .classes)) (a .lane) (a .row) (a .outer) _ _ _ _ (a .room) (l .k) _ _ _ _ _ refl
           (c .before .before .before .before .before .before .before .at .ensures) (b .pre .1 .0 .0) (omega arith) (omega arith)
-          (l .inv .2 ns) (w .0 ns),
+          (l .inv .2) (w .0),
     )
 
 same-length : tie.Need-same-length Inv-loop μ-loop
@@ -77,12 +76,11 @@ returns c =
     let l = c .before .loop in
     let a = c .before .before .before .before .before .before .before .args in
     let e : l .k ≡ a .n = omega arith in (
-      λ ns.
-          subst
+      subst
           (λ (k : ℕ).
-          Tables (listsOf (a .classes)) ns (a .lane) (a .row) (a .outer) (a .onlane .now) (a .onrow .now) (a .onouter .now)
+          Tables (listsOf (a .classes)) (a .lane) (a .row) (a .outer) (a .onlane .now) (a .onrow .now) (a .onouter .now)
           (λ j. getD (a .nodes .now) (64 * a .f + j) 0) (a .room) k (a .area .now) (l .area))
-          e (l .inv .2 ns),
+          e (l .inv .2),
       l .inv .1,
     )
 

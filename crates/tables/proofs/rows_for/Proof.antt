@@ -7,17 +7,17 @@ use Rattle.tables.proofs.rows_for.Tie as tie
 returns : tie.Need-returns
 returns c =
     let a = c .before .args in
-    λ l nodes L R O p q. p ∙ sym (rows-both l nodes L R O (a .onlane) (a .onrow) (a .onouter) (c .if1 .taken))
+    λ l L R O p q. p ∙ sym (rows-both l L R O (a .onlane) (a .onrow) (a .onouter) (c .if1 .taken))
 
 returns-2 : tie.Need-returns-2
 returns-2 c =
     let a = c .before .before .args in
-    λ l nodes L R O p q. q ∙ sym (rows-outer l nodes L R O (a .onlane) (a .onrow) (a .onouter) (c .before .if1 .left) (c .if2 .taken))
+    λ l L R O p q. q ∙ sym (rows-outer l L R O (a .onlane) (a .onrow) (a .onouter) (c .before .if1 .left) (c .if2 .taken))
 
 returns-3 : tie.Need-returns-3
 returns-3 c =
     let a = c .before .before .args in
-    λ l nodes L R O p q. sym (rows-one l nodes L R O (a .onlane) (a .onrow) (a .onouter) (c .before .if1 .left) (c .if2 .left))
+    λ l L R O p q. sym (rows-one l L R O (a .onlane) (a .onrow) (a .onouter) (c .before .if1 .left) (c .if2 .left))
 
 pub rows-for-spec : {M : Type 1} → statement M
 rows-for-spec = tie.close (tie.spec returns returns-2 returns-3)

@@ -1,6 +1,5 @@
 -- `tables::table` meets its contract.
 use mathlib.Core.Path.{refl}
-use mathlib.Core.List.{[]}
 use native.Mathlib.Omega.{arith}
 use Rattle.policy.specs.Nodes.{opOf}
 use Rattle.policy.specs.Rules.{listsOf}
@@ -13,9 +12,7 @@ returns : tie.Need-returns
 unfolding opOf
 returns c =
     let a = c .before .before .args in (
-      λ nodes.
-          table-none (listsOf (a .classes)) nodes (a .lane) (a .row) (a .outer) (a .onlane) (a .onrow) (a .onouter) (a .node) (a .base) (a .area .now)
-          (c .if1 .taken),
+      table-none (listsOf (a .classes)) (a .lane) (a .row) (a .outer) (a .onlane) (a .onrow) (a .onouter) (a .node) (a .base) (a .area .now) (c .if1 .taken),
       refl,
     )
 
@@ -33,8 +30,8 @@ fill-requires c κs =
     let b = c .before .before .before .before .before .before in
     let a = b .args in
     let l = listsOf (a .classes) in
-    let e = c .before .before .before .rows-for .ensures l [] (a .lane) (a .row) (a .outer) (b .pre .1 .0) (b .pre .1 .1) in
-    let w = rows-few l [] (a .lane) (a .row) (a .outer) (a .room) (b .pre .0 .0) (omega arith) (omega arith) (a .onlane) (a .onrow) (a .onouter) in
+    let e = c .before .before .before .rows-for .ensures l (a .lane) (a .row) (a .outer) (b .pre .1 .0) (b .pre .1 .1) in
+    let w = rows-few l (a .lane) (a .row) (a .outer) (a .room) (b .pre .0 .0) (omega arith) (omega arith) (a .onlane) (a .onrow) (a .onouter) in
     (omega (arith, e, w), omega (arith, e, w))
 
 same-length : tie.Need-same-length
@@ -46,9 +43,8 @@ returns-2 c =
     let b = c .before .before .before .before .before .before .before .before .before in
     let a = b .args in
     let l = listsOf (a .classes) in (
-      λ nodes.
-          table-filled l nodes (a .lane) (a .row) (a .outer) (a .onlane) (a .onrow) (a .onouter) (a .node) (a .base) _ _ _ _ _
-          (c .before .before .before .before .before .before .rows-for .ensures l nodes (a .lane) (a .row) (a .outer) (b .pre .1 .0) (b .pre .1 .1))
+      table-filled l (a .lane) (a .row) (a .outer) (a .onlane) (a .onrow) (a .onouter) (a .node) (a .base) _ _ _ _ _
+          (c .before .before .before .before .before .before .rows-for .ensures l (a .lane) (a .row) (a .outer) (b .pre .1 .0) (b .pre .1 .1))
           (c .before .before .before .before .before .lane-for .ensures)
           (c .before .before .before .before .row-for .ensures)
           (w .ensures .0),

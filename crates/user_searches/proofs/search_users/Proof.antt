@@ -1,89 +1,62 @@
--- `user_searches::search_users` meets its contract. The loop's invariant: the searches of the users below u are there. The measure is what is left of the 16.
-use mathlib.Core.Path.{_≡_, refl, sym, ap, subst, _∙_}
-use mathlib.Core.List.{List}
-use mathlib.Core.Logic.{⊎-elim}
-use Prim.Native.Nat.{_+_, _-_, _≤_}
+-- `user_searches::search_users` meets its contract. What is lent stays as long as it was, so that it is enough for the second formula too.
+use mathlib.Core.Path.{subst, _∙_}
 use native.Mathlib.Omega.{arith}
-use Rattle.policy.specs.Rules.{policyOf}
-use Rattle.allowed.specs.Allowed.{modelOf}
 use Rattle.runs.specs.Model.{Model}
-use Rattle.allowed.proofs.ModelLaws.{model-users, basis-model, basis-lists}
-use Rattle.search.specs.Queue.{nothing}
-use Rattle.search.specs.Sessions.{sessionsFound}
-use Rattle.search.specs.declared.queue.Found.{Found}
-use Rattle.user_searches.proofs.Laws.{Searching, searching-none, searching-stays, searching-more, searching-all}
+use Rattle.allowed.proofs.ModelLaws.{basis-model, basis-lists}
+use Rattle.allowed.proofs.ScratchLaws.{scratch-kept}
+use Rattle.user_searches.specs.Found.{UsersFound}
 use borrow.Author.Needs.{needs}
 use Rattle.user_searches.proofs.search_users.Statement.{statement}
 use Rattle.user_searches.proofs.search_users.Tie as tie
 
-abbrev Inv-loop : tie.InvT-loop
-Inv-loop basis rules n users₀ u₀ users u = (u ≤ 16) × (n ≡ rules .users .count) × Searching (modelOf (policyOf rules)) n users u
+prepare-requires : tie.Need-prepare-requires
+prepare-requires c κs = search needs
 
-abbrev μ-loop : tie.MeasureT-loop
-μ-loop basis rules n users₀ u₀ users u = 16 - u
+open-each-requires : tie.Need-open-each-requires
+open-each-requires c κs = search needs
 
-cast-n : tie.Need-cast-n Inv-loop μ-loop
-cast-n c = search needs
+prepare-requires-2 : tie.Need-prepare-requires-2
+prepare-requires-2 c κs =
+    let o = c .before .before .before .before .before .before .before in
+    let p = o .before .before .before .before .before .before .before .before .before .before in
+    let s = p .before .before .before .before .before .before .before .before in
+    ((omega arith, scratch-kept (s .pre .1) (p .prepare .ensures .1 .0) (o .open-each .kept .1 .1 .0 ∙ p .prepare .ensures .1 .1)), ((λ e. omega arith), (λ e. omega arith), (λ e. omega arith)))
 
-nothing-requires : tie.Need-nothing-requires Inv-loop μ-loop
-nothing-requires c κs = search needs
+search-each-requires : tie.Need-search-each-requires
+search-each-requires c κs =
+    let p2 = c .before .before .before .before .before .before .before .before .before in
+    let o = p2 .before .before .before .before .before .before .before .before in
+    let s = o .before .before .before .before .before .before .before .before .before .before .before .before .before .before .before .before .before .before in
+    (basis-lists (s .args .t1) (s .args .basis) (s .pre .0), (p2 .prepare2 .ensures .0, o .open-each .ensures))
 
-loop-holds : tie.Need-loop-holds Inv-loop μ-loop
-loop-holds c = (search needs, refl, searching-none (modelOf (policyOf (c .before .args .t1))) _ (c .nothing .result) (c .nothing .ensures))
+same-length : tie.Need-same-length
+same-length c =
+    let e = c .before .before in
+    let p2 = e .before .before .before .before .before .before .before .before .before .before in
+    let o = p2 .before .before .before .before .before .before .before .before in
+    let p = o .before .before .before .before .before .before .before .before .before .before in
+    e .search-each .kept .1 .1 .0 ∙ p2 .prepare2 .ensures .1 .1 ∙ o .open-each .kept .1 .1 .0 ∙ p .prepare .ensures .1 .1
 
-cast-user-values : tie.Need-cast-user-values Inv-loop μ-loop
-cast-user-values c = search needs
+same-length-2 : tie.Need-same-length-2
+same-length-2 c =
+    let p2 = c .before .before .before .before .before .before .before .before .before .before .before .before in
+    let p = p2 .before .before .before .before .before .before .before .before .before .before .before .before .before .before .before .before .before .before in
+    p2 .prepare2 .ensures .1 .0 ∙ p .prepare .ensures .1 .0
 
-user-values-requires : tie.Need-user-values-requires Inv-loop μ-loop
-user-values-requires c κs = search needs
-
-mul-users : tie.Need-mul-users Inv-loop μ-loop
-mul-users c = search needs
-
-array-set-from-users : tie.Need-array-set-from-users Inv-loop μ-loop
-array-set-from-users c = search needs
-
-add-u : tie.Need-add-u Inv-loop μ-loop
-add-u c = search needs
-
-loop-less : tie.Need-loop-less Inv-loop μ-loop
-loop-less c = search needs
-
-loop-again : tie.Need-loop-again Inv-loop μ-loop
-loop-again c =
-    let s = c .before .before .before .before in
-    let a = s .args in
-    let l = c .before .before .loop in
-    let r = a .t1 in
-    let m = modelOf (policyOf r) in (
-      search needs,
-      search needs,
-      ⊎-elim
-          (λ z. subst (λ (us : List Found). Searching m (r .users .count) us (l .u + 1)) (sym (z .5)) (searching-more m _ (l .users) (l .u) (omega arith) (l .inv .2) (z .4 .result) (z .0 .taken) (z .4 .ensures (basis-lists r (a .basis) (s .pre)) ∙ ap (λ (x : Model). sessionsFound x (l .u)) (basis-model r (a .basis) (s .pre)))))
-          (λ z. subst (λ (us : List Found). Searching m (r .users .count) us (l .u + 1)) (sym (z .1)) (searching-stays m _ (l .users) (l .u) (omega arith) (l .inv .2) (z .0 .left)))
-          (c .if1 .came),
-    )
-
-returns : tie.Need-returns Inv-loop μ-loop
+returns : tie.Need-returns
 returns c =
-    let a = c .before .before .before .args in
-    let l = c .before .loop in
-    searching-all (modelOf (policyOf (a .t1))) _ (l .users) (l .u) (omega arith) (model-users (a .t1) ∙ sym (l .inv .1)) (l .inv .2)
+    let e = c .before .before in
+    let s = e .before .before .before .before .before .before .before .before .before .before .before .before .before .before .before .before .before .before .before .before .before .before .before .before .before .before .before .before .before .before .before .before .before .before .before .before in
+    subst (λ (m : Model). UsersFound m (e .search-each .result)) (basis-model (s .args .t1) (s .args .basis) (s .pre .0)) (e .search-each .ensures)
 
 pub search-users-spec : {M : Type 1} → statement M
 search-users-spec =
     tie.close
     (tie.spec
-    Inv-loop
-    μ-loop
-    cast-n
-    nothing-requires
-    loop-holds
-    cast-user-values
-    user-values-requires
-    mul-users
-    array-set-from-users
-    add-u
-    loop-less
-    loop-again
+    prepare-requires
+    open-each-requires
+    prepare-requires-2
+    search-each-requires
+    same-length
+    same-length-2
     returns)

@@ -18,27 +18,45 @@ value-of-requires : tie.Need-value-of-requires
 value-of-requires c κs = search needs
 
 one-item-requires : tie.Need-one-item-requires
-one-item-requires c κs = search needs
+one-item-requires c κs =
+    let s = c .before .before .before .before .before .before .before .before .before .before .before .before in
+    (basis-lists (s .args .t1) (s .args .basis) (s .pre .0), s .pre .1)
+
+same-length : tie.Need-same-length
+same-length c = search needs
+
+same-length-2 : tie.Need-same-length-2
+same-length-2 c = search needs
 
 returns : tie.Need-returns
 returns c =
-    let s = c .before .before .before .before .before .before .before .before .before in
+    let v = c .before .before .before .before in
+    let s = v .before .before .before .before .before .before .before .before .before .before .before .before .before in
     let a = s .args in
     let h = laneOf (a .helpers) in
-    c .one-item .ensures (basis-lists (a .t1) (a .basis) (s .pre))
-    ∙ ap₂ (λ (m : Model) (o : ℕ). oneFound m h (a .q .item) o) (basis-model (a .t1) (a .basis) (s .pre)) (c .before .value-of .ensures)
-    ∙ item-one (a .t1) (a .q) h (c .before .before .before .before .before .before .before .if1 .taken)
+    v .one-item .ensures
+    ∙ ap₂ (λ (m : Model) (o : ℕ). oneFound m h (a .q .item) o) (basis-model (a .t1) (a .basis) (s .pre .0)) (v .before .value-of .ensures)
+    ∙ item-one (a .t1) (a .q) h (v .before .before .before .before .before .before .before .before .before .if1 .taken)
 
 any-item-requires : tie.Need-any-item-requires
-any-item-requires c κs = search needs
+any-item-requires c κs =
+    let s = c .before .before .before .before .before .before .before .before .before .before in
+    (basis-lists (s .args .t1) (s .args .basis) (s .pre .0), s .pre .1)
+
+same-length-3 : tie.Need-same-length-3
+same-length-3 c = search needs
+
+same-length-4 : tie.Need-same-length-4
+same-length-4 c = search needs
 
 returns-2 : tie.Need-returns-2
 returns-2 c =
-    let s = c .before .before .before .before .before .before .before in
+    let v = c .before .before .before .before in
+    let s = v .before .before .before .before .before .before .before .before .before .before .before in
     let a = s .args in
-    c .any-item .ensures (basis-lists (a .t1) (a .basis) (s .pre))
-    ∙ ap (λ (m : Model). anyFound m (laneOf (a .helpers)) (valuesOf (a .t1 .items))) (basis-model (a .t1) (a .basis) (s .pre))
-    ∙ item-any (a .t1) (a .q) (laneOf (a .helpers)) (c .before .before .before .before .before .if1 .left)
+    v .any-item .ensures
+    ∙ ap (λ (m : Model). anyFound m (laneOf (a .helpers)) (valuesOf (a .t1 .items))) (basis-model (a .t1) (a .basis) (s .pre .0))
+    ∙ item-any (a .t1) (a .q) (laneOf (a .helpers)) (v .before .before .before .before .before .before .before .if1 .left)
 
 pub item-values-spec : {M : Type 1} → statement M
 item-values-spec =
@@ -47,6 +65,10 @@ item-values-spec =
     cast-value-of
     value-of-requires
     one-item-requires
+    same-length
+    same-length-2
     returns
     any-item-requires
+    same-length-3
+    same-length-4
     returns-2)

@@ -21,23 +21,34 @@ held-of-requires : tie.Need-held-of-requires
 held-of-requires c κs = search needs
 
 own-values-requires : tie.Need-own-values-requires
-own-values-requires c κs = search needs
+own-values-requires c κs =
+    let s = c .before .before .before .before .before .before .before .before .before .before .before .before .before .before in
+    (basis-lists (s .args .t1) (s .args .basis) (s .pre .0), s .pre .1)
+
+same-length : tie.Need-same-length
+same-length c = search needs
+
+same-length-2 : tie.Need-same-length-2
+same-length-2 c = search needs
 
 returns : tie.Need-returns
 returns c =
-    let s = c .before .before .before .before .before .before .before .before .before .before .before in
+    let v = c .before .before .before .before in
+    let owner = v .before .before .before .owner-of in
+    let held = v .before .held-of in
+    let s = v .before .before .before .before .before .before .before .before .before .before .before .before .before .before .before in
     let a = s .args in
-    c .own-values .ensures (basis-lists (a .t1) (a .basis) (s .pre))
-    ∙ ap (λ (m : Model). ownFound m (c .before .before .before .owner-of .result) (c .before .held-of .result)) (basis-model (a .t1) (a .basis) (s .pre))
-    ∙ ap₂ (ownFound (modelOf (policyOf (a .t1)))) (c .before .before .before .owner-of .ensures) (c .before .held-of .ensures)
-    ∙ session-own (a .t1) (a .q) (c .before .before .before .before .before .before .before .before .before .if1 .taken)
+    v .own-values .ensures
+    ∙ ap (λ (m : Model). ownFound m (owner .result) (held .result)) (basis-model (a .t1) (a .basis) (s .pre .0))
+    ∙ ap₂ (ownFound (modelOf (policyOf (a .t1)))) (owner .ensures) (held .ensures)
+    ∙ session-own (a .t1) (a .q) (v .before .before .before .before .before .before .before .before .before .before .before .if1 .taken)
 
 nothing-requires : tie.Need-nothing-requires
 nothing-requires c κs = search needs
 
 returns-2 : tie.Need-returns-2
 returns-2 c =
-    let a = c .before .before .before .args in
+    let a = c .before .before .before .before .before .args in
     c .nothing .ensures ∙ session-none (a .t1) (a .q) (c .before .if1 .left)
 
 pub session-values-spec : {M : Type 1} → statement M
@@ -48,6 +59,8 @@ session-values-spec =
     owner-of-requires
     held-of-requires
     own-values-requires
+    same-length
+    same-length-2
     returns
     nothing-requires
     returns-2)

@@ -1,4 +1,4 @@
--- `leaves::values::compared` meets its contract: by the values of the first operand, by those of the second, or bit by bit.
+-- `leaves::values::compared` meets its contract: by the values of the first operand, by those of the second, lane by lane, or bit by bit.
 use mathlib.Core.Path.{sym, subst}
 use mathlib.Core.Bool.{true, false}
 use Prim.Native.Nat.{ℕ, _/_, _%_, _^_}
@@ -11,7 +11,7 @@ use Rattle.planes.specs.declared.operand.Operand.{Operand}
 use Rattle.leaves.specs.Side.{operandAt}
 use Rattle.leaves.specs.Values.{Hot, sided}
 use Rattle.leaves.proofs.Parts.{one-shl}
-use Rattle.leaves.proofs.Joins.{few-first, few-second}
+use Rattle.leaves.proofs.Joins.{few-first, few-second, both-fields}
 use borrow.Author.Needs.{needs}
 use Rattle.leaves.proofs.values.compared.Statement.{statement}
 use Rattle.leaves.proofs.values.compared.Tie as tie
@@ -72,17 +72,27 @@ returns-2 c =
     (subst (λ (o : Operand). Lanes (λ v. sided true (a .op) (F v) (a .y .size) (o .number) (o .size)) (c .joined2 .result)) (q .operand-at .ensures) (c .joined2 .ensures F H))
     (λ v h. few-second (a .y) (a .x) (a .hot .now) f (a .op) (a .i) v)
 
-compare-all-requires : tie.Need-compare-all-requires
-compare-all-requires c κs = search needs
+lane-by-lane-requires : tie.Need-lane-by-lane-requires
+lane-by-lane-requires c κs = search needs
 
 returns-3 : tie.Need-returns-3
 returns-3 c =
-    let q = c .before .before .before .before in
+    let s = c .before .before .before .before .before .before .before in
+    let a = s .args in
+    let (f, g) = s .pre .2 .both (c .before .if3 .taken) in
+    lanes-as _ _ _ (c .lane-by-lane .ensures) (λ v h. both-fields (a .x) (a .y) f g (a .op) (a .i) v)
+
+compare-all-requires : tie.Need-compare-all-requires
+compare-all-requires c κs = search needs
+
+returns-4 : tie.Need-returns-4
+returns-4 c =
+    let q = c .before .before .before .before .before in
     let a = q .before .before .args in
     let r = c .compare-all .result in
     let y = operandAt (a .y) (a .i) in
     subst (λ (x : Operand). Lanes (comparedIn (a .op) x y) r) (q .operand-at .ensures)
-    (subst (λ (z : Operand). Lanes (comparedIn (a .op) (q .operand-at .result) z) r) (c .before .before .before .operand-at2 .ensures) (c .compare-all .ensures))
+    (subst (λ (z : Operand). Lanes (comparedIn (a .op) (q .operand-at .result) z) r) (c .before .before .before .before .operand-at2 .ensures) (c .compare-all .ensures))
 
 pub compared-spec : {M : Type 1} → statement M
 compared-spec =
@@ -98,5 +108,7 @@ compared-spec =
     shl-joined-2
     joined-requires-2
     returns-2
+    lane-by-lane-requires
+    returns-3
     compare-all-requires
-    returns-3)
+    returns-4)

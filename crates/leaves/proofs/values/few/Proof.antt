@@ -27,14 +27,14 @@ returns-5 : tie.Need-returns-5
 unfolding operandAt
 returns-5 c e =
     let q = c .before .before .before in
-    (q .before .before .before .before .if1 .left, omega (arith, q .if3 .left), c .before .if4 .left, λ i. ap (λ (b : Bool). cond b 0 (q .before .before .before .before .before .args .y .bits)) (c .if5 .taken))
+    (record { lane = q .before .before .before .before .if1 .left; zero = c .before .if4 .left }, omega (arith, q .if3 .left), λ i. ap (λ (b : Bool). cond b 0 (q .before .before .before .before .before .args .y .bits)) (c .if5 .taken))
 
 returns-6 : tie.Need-returns-6
 unfolding operandAt
 returns-6 c e =
     let q = c .before .before .before .before in
     let y = q .before .before .before .before .before .args .y in
-    (q .before .before .before .before .if1 .left, omega (arith, q .if3 .left), c .before .before .if4 .left, λ i. ap (λ (b : Bool). cond b 0 (y .bits)) (c .before .if5 .left) ∙ eqb-true (y .bits) 0 e)
+    (record { lane = q .before .before .before .before .if1 .left; zero = c .before .before .if4 .left }, omega (arith, q .if3 .left), λ i. ap (λ (b : Bool). cond b 0 (y .bits)) (c .before .if5 .left) ∙ eqb-true (y .bits) 0 e)
 
 pub few-spec : {M : Type 1} → statement M
 few-spec = tie.close (tie.spec returns returns-2 returns-3 returns-4 returns-5 returns-6)

@@ -1,5 +1,5 @@
--- `leaves::values::prepare` meets its contract: one operand has few values and its rows are laid out, or none has.
-use Rattle.leaves.proofs.Joins.{way-first, way-second, way-none}
+-- `leaves::values::prepare` meets its contract: one operand has few values and its rows are laid out, or both are fields of the lane, or neither.
+use Rattle.leaves.proofs.Joins.{way-first, way-second, way-both, way-none}
 use borrow.Author.Needs.{needs}
 use Rattle.leaves.proofs.values.prepare.Statement.{statement}
 use Rattle.leaves.proofs.values.prepare.Tie as tie
@@ -18,7 +18,7 @@ returns c =
     let w = c .before .before .value-rows in
     let q = c .before .before .before .before in
     let f = q .before .few .ensures (q .if1 .taken) in
-    (way-first _ _ _ record { lane = f .0; bits = f .1; zero = f .2; plain = f .3; rows = w .ensures .0 }, w .ensures .1)
+    (way-first _ _ _ record { field = f .0; bits = f .1; plain = f .2; rows = w .ensures .0 }, w .ensures .1)
 
 few-requires-2 : tie.Need-few-requires-2
 few-requires-2 c κs = search needs
@@ -34,10 +34,16 @@ returns-2 c =
     let w = c .before .before .value-rows2 in
     let q = c .before .before .before .before in
     let f = q .before .few2 .ensures (q .if2 .taken) in
-    (way-second _ _ _ record { lane = f .0; bits = f .1; zero = f .2; plain = f .3; rows = w .ensures .0 }, w .ensures .1)
+    (way-second _ _ _ record { field = f .0; bits = f .1; plain = f .2; rows = w .ensures .0 }, w .ensures .1)
+
+both-requires : tie.Need-both-requires
+both-requires c κs = search needs
 
 returns-3 : tie.Need-returns-3
-returns-3 c = (way-none _ _ _, c .before .before .before .before .before .pre)
+returns-3 c = (way-both _ _ _ (c .before .both .ensures (c .if3 .taken)), c .before .before .before .before .before .before .before .pre)
+
+returns-4 : tie.Need-returns-4
+returns-4 c = (way-none _ _ _, c .before .before .before .before .before .before .before .pre)
 
 pub prepare-spec : {M : Type 1} → statement M
 prepare-spec =
@@ -51,4 +57,6 @@ prepare-spec =
     value-rows-requires-2
     same-length-2
     returns-2
-    returns-3)
+    both-requires
+    returns-3
+    returns-4)

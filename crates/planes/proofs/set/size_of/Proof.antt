@@ -2,7 +2,6 @@
 use mathlib.Core.Path.{sym}
 use native.Mathlib.Omega.{arith}
 use Rattle.bits.proofs.Set.{size-small, size-large}
-use borrow.Author.Needs.{needs}
 use Rattle.planes.proofs.set.size_of.Statement.{statement}
 use Rattle.planes.proofs.set.size_of.Tie as tie
 

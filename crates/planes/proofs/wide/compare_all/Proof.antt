@@ -1,9 +1,8 @@
 -- `planes::wide::compare_all` meets its contract: the first word is the answer in all, or each word has its own.
-use mathlib.Core.Path.{_≡_, _∙_}
-use mathlib.Core.List.{List}
+use mathlib.Core.Path.{_∙_}
 use Rattle.lanes.proofs.Words.{lanes-by}
 use Rattle.planes.specs.Word.{comparedIn}
-use Rattle.planes.proofs.Fours.{compared-alike}
+use Rattle.planes.proofs.Comparisons.{compared-alike}
 use borrow.Author.Needs.{needs}
 use Rattle.planes.proofs.wide.compare_all.Statement.{statement}
 use Rattle.planes.proofs.wide.compare_all.Tie as tie

@@ -1,7 +1,6 @@
 -- `planes::word::whole` meets its contract: every bit is set, or none is.
 use mathlib.Core.Path.{sym, _∙_}
 use Rattle.planes.proofs.Words.{word-all, word-none}
-use borrow.Author.Needs.{needs}
 use Rattle.planes.proofs.word.whole.Statement.{statement}
 use Rattle.planes.proofs.word.whole.Tie as tie
 

@@ -13,33 +13,11 @@ same-length c = search needs
 same-length-2 : tie.Need-same-length-2
 same-length-2 c = search needs
 
-same-length-3 : tie.Need-same-length-3
-same-length-3 c = search needs
-
-same-length-4 : tie.Need-same-length-4
-same-length-4 c = search needs
-
-same-length-5 : tie.Need-same-length-5
-same-length-5 c = search needs
-
 returns : tie.Need-returns
-returns c =
-    let after-push = c .before .before .before .before .before .before .before .before .before .before in
-    let after-if1 = after-push .before .before .before .before .before .before in
-    cond-on _ _ _ (after-if1 .if1 .taken) (after-push .push .ensures)
+returns c = let p = c .before .before .before .before in cond-on _ _ _ (p .before .before .before .if1 .taken) (p .push .ensures)
 
 returns-2 : tie.Need-returns-2
 returns-2 c = cond-off _ _ _ (c .if1 .left)
 
 pub push-if-spec : {M : Type 1} → statement M
-push-if-spec =
-    tie.close
-    (tie.spec
-    push-requires
-    same-length
-    same-length-2
-    same-length-3
-    same-length-4
-    same-length-5
-    returns
-    returns-2)
+push-if-spec = tie.close (tie.spec push-requires same-length same-length-2 returns returns-2)

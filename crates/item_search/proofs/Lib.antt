@@ -1,0 +1,1 @@
+pub mod Laws  -- one session value of each kind is enough

@@ -1,10 +1,9 @@
--- How many lanes a set has, for callers.
+-- How many numbers a test holds of, for callers.
 use mathlib.Core.Path.{_≡_, refl, ap}
 use mathlib.Core.Bool.{Bool, true, false, cond}
-use mathlib.Core.List.{List}
 use Prim.Native.Nat.{ℕ, zero, suc, _+_, _≤_, _<_}
 use native.Mathlib.Omega.{arith}
-use Rattle.lanes.specs.Lanes.{laneOf, Lanes, countBelow, countOf}
+use Rattle.lanes.specs.Lanes.{countBelow}
 
 module _ (f : ℕ → Bool) where
   pub count-below-le : (n : ℕ) → countBelow f n ≤ n
@@ -28,12 +27,3 @@ pub count-ext : (f g : ℕ → Bool) (n : ℕ) → ((i : ℕ) → i < n → f i 
 unfolding countBelow
 count-ext f g zero h = refl
 count-ext f g (suc n) h = rw (count-ext f g n (λ i l. h i (omega arith)), h n (omega arith)) refl
-
-pub count-le : (x : List ℕ) → countOf x ≤ 256
-unfolding countOf
-count-le x = count-below-le (laneOf x) 256
-
--- as many as f holds of
-pub count-lanes : (f : ℕ → Bool) (x : List ℕ) → Lanes f x → countOf x ≡ countBelow f 256
-unfolding countOf
-count-lanes f x l = count-ext (laneOf x) f 256 (l .each)

@@ -7,13 +7,13 @@ use Prim.Native.Nat.{ℕ, zero, suc, _+_, _-_, _≤_, _<_}
 use native.Mathlib.Numerals.{add-one}
 use native.Mathlib.Omega.{arith}
 use lib.Dec.{ltb}
-use lib.ListN.{getD, length}
+use lib.ListN.{getD}
 use Rattle.lanes.specs.Lanes.{laneOf, Lanes, lastBelow, highestOf}
 use Rattle.lanes.proofs.Laws.{lanes-as, last-ext, highest-lanes, highest-last}
 use Rattle.runs.specs.Model.{Model}
 use Rattle.runs.specs.Edge.{makesWith}
-use Rattle.search.specs.Queue.{nothing, pushed, unmet}
-use Rattle.search.specs.Items.{Had, lastMaker, asked, offeredBy, offered, itemsAt, growItems, readyOf, oneFound, startRoots, anyFound}
+use Rattle.search.specs.Queue.{pushed, unmet}
+use Rattle.search.specs.Items.{Had, lastMaker, asked, offeredBy, offered, itemsAt, growItems, readyOf, startRoots}
 use Rattle.search.specs.declared.queue.Found.{Found}
 use Rattle.search.proofs.Laws.{turn, skip}
 
@@ -128,15 +128,3 @@ module _ (m : Model) (helpers own both : List ℕ) (S : Lanes (m .sessionValue) 
 
   pub ready-asked : (q : Found) (n : ℕ) → asked m (laneOf both) q n ≡ asked m (readyOf m (laneOf helpers)) q n
   ready-asked = asked-ext m (laneOf both) (readyOf m (laneOf helpers)) (ready-lanes .each)
-
-  pub ready-items : (q : Found) (n : ℕ) → growItems m (laneOf both) q n ≡ growItems m (readyOf m (laneOf helpers)) q n
-  ready-items = items-ext m (laneOf both) (readyOf m (laneOf helpers)) (ready-lanes .each)
-
-pub one-is : (m : Model) (helper : ℕ → Bool) (j held : ℕ) → oneFound m helper j held ≡ growItems m (readyOf m helper) (pushed nothing held 0 (256 + j)) 256
-unfolding oneFound
-one-is m helper j held = refl
-
-pub any-is : (m : Model) (helper : ℕ → Bool) (values : List ℕ)
-    → anyFound m helper values ≡ growItems m (readyOf m helper) (asked m (readyOf m helper) (startRoots values nothing (length values)) 256) 256
-unfolding anyFound
-any-is m helper values = refl

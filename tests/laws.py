@@ -4,7 +4,7 @@ import glob
 import re
 import sys
 
-ANALYSER = ["replay", "search", "session_search", "item_starts", "item_search", "session_rows", "leak", "user_searches", "goal", "analyser"]
+ANALYSER = ["replay", "search", "session_search", "item_starts", "item_changes", "item_search", "session_rows", "leak", "user_searches", "goal", "analyser"]
 MONITOR = ["formulas", "bitsets", "dependence", "planes", "leaves", "alike", "prepared", "tables", "preparing", "allowed", "cells", "live", "steps", "starting", "judge",
            "monitor"]
 USE = rf"^\s*(?:pub )?use Rattle·({'|'.join(MONITOR)})\.specs\.(\S+?)"

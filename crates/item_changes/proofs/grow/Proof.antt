@@ -1,4 +1,4 @@
--- `item_search::grow` meets its contract. The loop's invariant: the places below i are gone through. The measure is what is left of the 256.
+-- `item_changes::grow` meets its contract. The loop's invariant: the places below i are gone through. The measure is what is left of the 256.
 use mathlib.Core.Path.{_≡_, refl, ap, _∙_}
 use Prim.Native.Nat.{_-_, _≤_}
 use native.Mathlib.Omega.{arith}
@@ -11,8 +11,8 @@ use Rattle.search.specs.Items.{itemsAt, growItems}
 use Rattle.search.specs.declared.queue.Found.{Found}
 use Rattle.search.proofs.ItemLaws.{items-start, items-turn}
 use borrow.Author.Needs.{needs}
-use Rattle.item_search.proofs.grow.Statement.{statement}
-use Rattle.item_search.proofs.grow.Tie as tie
+use Rattle.item_changes.proofs.grow.Statement.{statement}
+use Rattle.item_changes.proofs.grow.Tie as tie
 
 abbrev Inv-loop : tie.InvT-loop
 Inv-loop order₀ links₀ basis nodes area₀ steps ready plan h₀ i₀ order links area h i =

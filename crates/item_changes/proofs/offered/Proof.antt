@@ -1,4 +1,4 @@
--- `item_search::offered` meets its contract. The loop's invariant: the last k session values are gone through. The measure is what is left of the 256.
+-- `item_changes::offered` meets its contract. The loop's invariant: the last k session values are gone through. The measure is what is left of the 256.
 use mathlib.Core.Path.{_≡_, refl, ap, _∙_}
 use Prim.Native.Nat.{_-_, _≤_}
 use native.Mathlib.Omega.{arith}
@@ -11,8 +11,8 @@ use Rattle.search.specs.Items.{offeredBy, offered}
 use Rattle.search.specs.declared.queue.Found.{Found}
 use Rattle.search.proofs.ItemLaws.{offered-start, offered-turn}
 use borrow.Author.Needs.{needs}
-use Rattle.item_search.proofs.offered.Statement.{statement}
-use Rattle.item_search.proofs.offered.Tie as tie
+use Rattle.item_changes.proofs.offered.Statement.{statement}
+use Rattle.item_changes.proofs.offered.Tie as tie
 
 abbrev Inv-loop : tie.InvT-loop
 Inv-loop order₀ links₀ basis nodes area₀ steps plan ready i o h₀ k₀ order links area h k =

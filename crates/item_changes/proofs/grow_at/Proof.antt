@@ -1,12 +1,12 @@
--- `item_search::grow_at` meets its contract.
+-- `item_changes::grow_at` meets its contract.
 use mathlib.Core.Path.{ap}
 use mathlib.Core.Bool.{true, false, not}
 use Rattle.allowed.specs.Basis.{modelBy}
 use Rattle.search.specs.Lent.{foundOf}
 use Rattle.search.proofs.Laws.{cond-on, cond-off, more-at, more-end}
 use borrow.Author.Needs.{needs}
-use Rattle.item_search.proofs.grow_at.Statement.{statement}
-use Rattle.item_search.proofs.grow_at.Tie as tie
+use Rattle.item_changes.proofs.grow_at.Statement.{statement}
+use Rattle.item_changes.proofs.grow_at.Tie as tie
 
 returns : tie.Need-returns
 returns c =

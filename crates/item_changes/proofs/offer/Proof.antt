@@ -1,4 +1,4 @@
--- `item_search::offer` meets its contract.
+-- `item_changes::offer` meets its contract.
 use mathlib.Core.Path.{sym, ap, ap₂, _∙_}
 use mathlib.Core.Bool.{Bool, true, false, not, _&&_}
 use Prim.Native.Nat.{_+_, _-_}
@@ -9,8 +9,8 @@ use Rattle.search.specs.Queue.{unmet}
 use Rattle.search.specs.Lent.{foundOf}
 use Rattle.search.proofs.Laws.{cond-on, cond-off, unmet-some, unmet-lanes, spread-modifies}
 use borrow.Author.Needs.{needs}
-use Rattle.item_search.proofs.offer.Statement.{statement}
-use Rattle.item_search.proofs.offer.Tie as tie
+use Rattle.item_changes.proofs.offer.Statement.{statement}
+use Rattle.item_changes.proofs.offer.Tie as tie
 
 sub-v : tie.Need-sub-v
 sub-v c = search needs

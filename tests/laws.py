@@ -4,9 +4,10 @@ import glob
 import re
 import sys
 
-ANALYSER = ["replay", "search", "session_search", "item_starts", "item_changes", "item_search", "session_rows", "leak", "user_searches", "goal", "analyser"]
-MONITOR = ["formulas", "bitsets", "dependence", "planes", "leaves", "alike", "prepared", "tables", "preparing", "allowed", "cells", "live", "steps", "starting", "judge",
-           "monitor"]
+ANALYSER = ["replay", "search", "session_search", "item_starts", "item_changes", "item_search", "session_rows", "user_results", "user_searches", "hits", "leak",
+            "goal", "decision", "analyser"]
+MONITOR = ["formulas", "allowed", "bitsets", "dependence", "planes", "sides", "leaves", "alike", "prepared", "tables", "preparing", "allowed_rows", "cells", "live",
+           "steps", "starting", "judge", "monitor"]
 USE = rf"^\s*(?:pub )?use Rattle·({'|'.join(MONITOR)})\.specs\.(\S+?)"
 UNFOLDING = r"^( *)unfolding((?: +\S+)+(?:\n\1 +\S+(?: +\S+)*)*)$"
 

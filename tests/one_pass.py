@@ -18,7 +18,7 @@ import sys
 
 from sources import TOKEN, closing, sources
 
-CRATES = ["bits", "format", "reader", "rules"]
+CRATES = ["bits", "format", "reader_head", "reader", "rules"]
 START, FIRST = "rules::read_rules", "reader::read_policy"
 # the one function that looks at the bytes of a file that is read
 LOOKS = "bits::window"

@@ -7,7 +7,7 @@ import subprocess
 import sys
 import tempfile
 
-SOURCES = ["crates/bits/src", "crates/format/src", "crates/reader/src", "crates/rules/src"]
+SOURCES = ["crates/bits/src", "crates/format/src", "crates/reader_head/src", "crates/reader/src", "crates/rules/src"]
 DECISIONS = "docs/DECISIONS.md"
 
 

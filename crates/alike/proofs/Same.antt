@@ -16,7 +16,8 @@ use Rattle.policy.specs.Policy.{Attr, Lists, bitsFor, width}
 use Rattle.policy.specs.Nodes.{opOf, firstOf, secondOf, holderOf, placeOf, ofHolder}
 use Rattle.policy.specs.Rules.{nodesOf}
 use Rattle.policy.proofs.Laws.{nodes-length}
-use Rattle.formulas.specs.Value.{attrOf, partOf, heldBy, operand, shiftIn, bitsIn}
+use Rattle.formulas.specs.Value.{attrOf, partOf, heldBy, operand}
+use Rattle.alike.specs.Fields.{shiftIn, bitsIn}
 use Rattle.formulas.specs.Meaning.{holds}
 use Rattle.formulas.specs.declared.Holders.{Holders}
 use Rattle.formulas.proofs.BitLaws.{byte-high}

@@ -7,7 +7,10 @@ ghost use Rattle.lanes.specs.Lanes.{laneOf};
 ghost use Rattle.policy.specs.Rules.{listsOf, nodesOf};
 ghost use Rattle.alike.specs.Alike.{OneOfEach};
 ghost use Rattle.alike.specs.Mask.{Keeps, KeepsNode, OneOfEachIn};
-use formulas::fields_of;
+
+mod fields;
+
+use fields::fields_of;
 use formulas::table::byte_of;
 use planes::class_of;
 use policy::Classes;

@@ -1,5 +1,5 @@
 -- Laws of the model, for callers. In order: of rules in memory its counts, the values in the lists and those of users; of any policy the same, and what
--- each formula is asked; policies with the same model: other starts, no list numbers, a basis and nodes.
+-- each formula is asked; policies with the same model: other starts, no list numbers.
 use mathlib.Core.Path.{_≡_, refl}
 use mathlib.Core.Bool.{Bool, true, false, cond}
 use mathlib.Core.List.{[]}
@@ -17,8 +17,6 @@ use Rattle.formulas.specs.declared.Holders.{Holders}
 use Rattle.formulas.proofs.ListLaws.{holds-same}
 use Rattle.allowed.specs.Allowed.{says, opening, changing, making, modifying, accessing, userValue, modelOf}
 use Rattle.allowed.specs.Claims.{unlistedPolicy}
-use Rattle.allowed.specs.Basis.{BasisOf, modelBy, InLists}
-use Rattle.allowed.specs.declared.Basis.{Basis}
 
 module _ (r : Rules) where
   pub model-users : modelOf (policyOf r) .users ≡ r .users .count
@@ -111,16 +109,3 @@ model-unlisted p =
       mayModify = λ v o n. says-unlisted p 3 (modifying v o n) i;
       mayAccess = λ k v o. says-unlisted p (4 + k) (accessing v o) i;
     }
-
--- what rules allow is what their basis and nodes do
-module _ (r : Rules) (b : Basis) (B : BasisOf r b) where
-  pub basis-model : modelBy b (r .nodes) ≡ modelOf (policyOf r)
-  unfolding modelOf says userValue policyOf
-  basis-model = rw (B .classes, B .users, B .permissions, B .lengths) refl
-
-  pub basis-lists : InLists b (r .nodes)
-  basis-lists =
-      record {
-        sessions = rw basis-model (B .sessions);
-        items = rw basis-model (B .items);
-      }

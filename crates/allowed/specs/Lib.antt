@@ -1,6 +1,3 @@
 -- in reading order
 pub mod Allowed  -- what rules allow, as a model of runs
 pub mod Claims  -- what is proved of it
-pub mod Basis  -- what formulas are asked by, beside their nodes
-pub mod Scratch  -- what is lent to prepare formulas in
-pub mod Asked  -- the formulas prepared

@@ -75,7 +75,7 @@ pub(super) fn accessing(session: u8, item: u8) -> Holders
 }
 
 // The value of user u, or 0 where there is none.
-pub(super) fn user_value(users: Values, u: u8) -> u8
+pub fn user_value(users: Values, u: u8) -> u8
     ensures { λ r. ⌜ r ≡ getD (valuesOf users) u 0 ⌝ }
 {
     if users.count <= u {

@@ -1,13 +1,10 @@
-// What rules allow, asked for one value, or of prepared formulas (rows). The meaning is the model in specs/Allowed; crates above know formulas only
-// through it.
+// What rules allow, asked for one value. The meaning is the model in specs/Allowed; crates above know formulas only through it.
 ghost use mathlib.Core.Path.{_≡_};
 ghost use Rattle.policy.specs.Rules.{policyOf};
 ghost use Rattle.allowed.specs.Allowed.{modelOf};
-ghost use Rattle.allowed.specs.Basis.{BasisOf};
 
 mod formula;
-mod holders;
-pub mod rows;
+pub mod holders;
 
 use formula::says;
 use holders::accessing;
@@ -16,39 +13,7 @@ use holders::making;
 use holders::modifying;
 use holders::opening;
 use holders::user_value;
-use policy::Classes;
 use policy::Rules;
-use policy::Values;
-
-// What formulas are asked by, but for their nodes, which are lent beside it: the lists, the users' values, how many permissions there are, how many
-// nodes each formula has, and as sets the values in the lists of sessions and of items.
-pub struct Basis {
-    pub classes: Classes,
-    pub users: Values,
-    pub permissions: u8,
-    pub lengths: [u8; 12],
-    pub sessions: [u64; 4],
-    pub items: [u64; 4],
-}
-
-// What the formulas of the rules are asked by.
-pub fn basis_of(rules: Rules) -> Basis
-    ensures { λ r. ⌜ BasisOf rules r ⌝ }
-{
-    let classes = rules.classes;
-    let users = rules.users;
-    let lengths = rules.lengths;
-    let sessions = planes::values_of(classes.session);
-    let items = planes::values_of(classes.item);
-    Basis {
-        classes,
-        users,
-        permissions: rules.permissions,
-        lengths,
-        sessions,
-        items,
-    }
-}
 
 // Whether the formula lets user u open a session with value v.
 pub fn may_open(rules: Rules, u: u8, v: u8) -> bool

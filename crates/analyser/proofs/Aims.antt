@@ -29,13 +29,14 @@ use Rattle.search.specs.Sessions.{sessionsFound}
 use Rattle.search.specs.Items.{oneFound, anyFound}
 use Rattle.search.specs.declared.queue.Found.{Found}
 use Rattle.session_rows.specs.Writing.{writingOf}
-use Rattle.leak.specs.Standing.{Stands, named, Ready, WhoAimed, Aimed}
+use Rattle.leak.specs.Standing.{Stands, Ready, WhoAimed, Aimed}
+use Rattle.user_results.specs.Found.{named}
 use Rattle.session_rows.specs.declared.Pen.{Pen}
-use Rattle.user_searches.specs.Found.{userFound, UsersFound, anyHas, Names}
-use Rattle.goal.specs.Asked.{PenReady}
-use Rattle.goal.specs.Asked.{itemFound, sessionFound, aimOf}
+use Rattle.user_results.specs.Found.{userFound, UsersFound, anyHas, Names}
+use Rattle.goal.specs.Asked.{aimOf, PenReady}
+use Rattle.decision.specs.Decide.{itemSearch, ownSearch}
 use Rattle.analyser.proofs.Widths.{sessions-few, items-few, rules-sessions, rules-items, rules-items-long, rules-item}
-use Rattle.user_searches.proofs.UsersReach.{user-is, user-lane}
+use Rattle.user_results.proofs.UsersReach.{user-is, user-lane}
 use Rattle.analyser.proofs.ItemsReach.{ItemSearch, one-search, any-search, good-as}
 use Rattle.analyser.proofs.Hits.{Hit}
 use Rattle.analyser.proofs.Asked.{Asks, session-found, who-found-session, who-found-user, who-found-any, item-found-one, item-found-any, heldOf, aim-owner-session, aim-owner-user, aim-value, aim-permission, aim-items, aim-kind, aim-session, stands-open, held-byte, below, few-users, tested}
@@ -52,13 +53,13 @@ module _ (r : Rules) (q : Question) (sound : Sound (policyOf r)) (users : List F
   few-items : length (beginning (policyOf r) .items) ≤ 32
   few-items = rw (beginning-items (policyOf r)) (sound .items)
 
-  pub item-search : AsksItem (policyOf r) (q .itemkind) (q .item) (whichOf q) → ItemSearch (modelOf (policyOf r)) (beginning (policyOf r)) users (whichOf q) (itemFound r (anyHas users) q)
+  pub item-search : AsksItem (policyOf r) (q .itemkind) (q .item) (whichOf q) → ItemSearch (modelOf (policyOf r)) (beginning (policyOf r)) users (whichOf q) (itemSearch r users q)
   item-search (one-item e h w) =
       let i : q .item < length (beginning (policyOf r) .items) = rw (beginning-items (policyOf r)) h in
       let g : getD (beginning (policyOf r) .items) (q .item) 0 ≡ getD (r .items .values) (q .item) 0 =
       ap (λ (l : List ℕ). getD l (q .item) 0) (beginning-items (policyOf r)) ∙ rules-item r (q .item) h
       in
-      let f : oneFound (modelOf (policyOf r)) (anyHas users) (q .item) (getD (beginning (policyOf r) .items) (q .item) 0) ≡ itemFound r (anyHas users) q =
+      let f : oneFound (modelOf (policyOf r)) (anyHas users) (q .item) (getD (beginning (policyOf r) .items) (q .item) 0) ≡ itemSearch r users q =
       ap (oneFound (modelOf (policyOf r)) (anyHas users) (q .item)) g ∙ sym (item-found-one r q (anyHas users) e)
       in
       rw w
@@ -67,7 +68,7 @@ module _ (r : Rules) (q : Question) (sound : Sound (policyOf r)) (users : List F
       (q .item) i few-items))
   item-search (any-item e h w) =
       let d : q .itemkind ≡ 0 → ⊥ = λ n. omega arith in
-      let f : anyFound (modelOf (policyOf r)) (anyHas users) (beginning (policyOf r) .items) ≡ itemFound r (anyHas users) q =
+      let f : anyFound (modelOf (policyOf r)) (anyHas users) (beginning (policyOf r) .items) ≡ itemSearch r users q =
       ap (anyFound (modelOf (policyOf r)) (anyHas users)) (beginning-items (policyOf r) ∙ rules-items r) ∙ sym (item-found-any r q (anyHas users) d)
       in
       rw w
@@ -94,13 +95,13 @@ module _ (r : Rules) (q : Question) (sound : Sound (policyOf r)) (users : List F
 
     -- who is asked about can have the value
     who-aimed : AsksWho (policyOf r) (q .whokind) (q .who) (whoOf q) → (v : ℕ) → v < 256 → tested r q sound users found v ≡ true
-        → WhoAimed (modelOf (policyOf r)) (beginning (policyOf r)) by (sessionFound r q) (aimOf r q v) (whoOf q)
+        → WhoAimed (modelOf (policyOf r)) (beginning (policyOf r)) by (ownSearch r users q) (aimOf (r .sessions) (r .items) q v) (whoOf q)
     who-aimed (one-session e h w) v l t =
         rw (w, aim-owner-session r q v e, aim-value r q v l) (
           aim-kind r q v ∙ e,
           aim-session r q v,
           (heldOf r q, stands-open r q sound h, held-byte r q sound h, session-found r q e),
-          sym (who-found-session r q users (anyHas users) (sessionFound r q) v e) ∙ t,
+          sym (who-found-session r q users (anyHas users) (ownSearch r users q) v e) ∙ t,
         )
     who-aimed (one-user e h w) v l t =
         let few : q .who < 16 = omega (arith, h, sound .users) in
@@ -109,22 +110,22 @@ module _ (r : Rules) (q : Question) (sound : Sound (policyOf r)) (users : List F
           aim-kind r q v ∙ e,
           refl,
           i,
-          sym (ap (λ (x : Found). laneOf (x .seen) v) (user-of (q .who) i)) ∙ sym (who-found-user r q users (anyHas users) (sessionFound r q) v e few) ∙ t,
+          sym (ap (λ (x : Found). laneOf (x .seen) v) (user-of (q .who) i)) ∙ sym (who-found-user r q users (anyHas users) (ownSearch r users q) v e few) ∙ t,
         )
     who-aimed (any-session e h w) v l t =
         rw (w, aim-value r q v l)
-        (aim-kind r q v ∙ e, names .named-is v l ∙ sym (who-found-any r q users (anyHas users) (sessionFound r q) v e) ∙ t)
+        (aim-kind r q v ∙ e, names .named-is v l ∙ sym (who-found-any r q users (anyHas users) (ownSearch r users q) v e) ∙ t)
 
     -- what the analyser has found where there is a hit
     pub hit-aimed : Asks (policyOf r) q → Brought (modelOf (policyOf r)) (beginning (policyOf r)) → (i v : ℕ)
-        → Hit (modelOf (policyOf r)) (q .permission) (tested r q sound users found) (itemFound r (anyHas users) q) i v
-        → Aimed (modelOf (policyOf r)) (beginning (policyOf r)) users by (itemFound r (anyHas users) q) i (sessionFound r q) (aimOf r q v) (whoOf q) (whichOf q)
+        → Hit (modelOf (policyOf r)) (q .permission) (tested r q sound users found) (itemSearch r users q) i v
+        → Aimed (modelOf (policyOf r)) (beginning (policyOf r)) users by (itemSearch r users q) i (ownSearch r users q) (aimOf (r .sessions) (r .items) q v) (whoOf q) (whichOf q)
     hit-aimed a b i v h =
         let I = item-search (a .item) in
         record {
           brought = b;
           ready = ready;
-          searched = good-as (modelOf (policyOf r)) (anyHas users) (named by) (beginning (policyOf r) .items) (itemFound r (anyHas users) q) (λ v l. sym (names .named-is v l)) (I .good);
+          searched = good-as (modelOf (policyOf r)) (anyHas users) (named by) (beginning (policyOf r) .items) (itemSearch r users q) (λ v l. sym (names .named-is v l)) (I .good);
           place = h .place;
           value = omega (arith, aim-value r q v (h .byte), h .byte);
           permission = omega (arith, aim-permission r q v, a .permission, sound .permissions);

@@ -34,10 +34,11 @@ use Rattle.search.specs.Claims.{Change}
 use Rattle.search.specs.declared.queue.Found.{Found}
 use Rattle.search.proofs.Theorems.{own-is-searched, searched-is-closure}
 use Rattle.analyser.specs.Answer.{sessionValues, itemValues}
-use Rattle.user_searches.specs.Found.{userFound, UsersFound, anyHas}
+use Rattle.user_results.specs.Found.{userFound, UsersFound, anyHas}
 use Rattle.goal.specs.Asked.{itemFound, sessionFound, whoFound, aimOf}
+use Rattle.decision.specs.Decide.{ownSearch}
 use Rattle.analyser.proofs.Widths.{sessions-few, beginning-below, rules-session}
-use Rattle.user_searches.proofs.UsersReach.{user-lane, lane-user, any-is}
+use Rattle.user_results.proofs.UsersReach.{user-lane, lane-user, any-is}
 
 -- a question that asks something
 pub record Asks (p : Policy) (q : Question) : Type 0 where
@@ -91,7 +92,7 @@ module _ (r : Rules) (q : Question) where
   abbrev pub heldOf : ℕ
   heldOf = getD (r .sessions .values) (q .who) 0
 
-  pub session-found : q .whokind ≡ 0 → sessionFound r q ≡ ownFound (modelOf (policyOf r)) ownerOf heldOf
+  pub session-found : q .whokind ≡ 0 → sessionFound (modelOf (policyOf r)) (r .sessions) q ≡ ownFound (modelOf (policyOf r)) ownerOf heldOf
   unfolding sessionFound
   session-found e = rw (eq-eqb (q .whokind) 0 e) refl
 
@@ -108,39 +109,39 @@ module _ (r : Rules) (q : Question) where
     unfolding whoFound
     who-found-any e = rw (ne-eqb (q .whokind) 0 (λ z. omega arith), ne-eqb (q .whokind) 1 (λ z. omega arith)) refl
 
-  pub item-found-one : (helper : ℕ → Bool) → q .itemkind ≡ 0 → itemFound r helper q ≡ oneFound (modelOf (policyOf r)) helper (q .item) (getD (r .items .values) (q .item) 0)
+  pub item-found-one : (helper : ℕ → Bool) → q .itemkind ≡ 0 → itemFound (modelOf (policyOf r)) (r .items) helper q ≡ oneFound (modelOf (policyOf r)) helper (q .item) (getD (r .items .values) (q .item) 0)
   unfolding itemFound
   item-found-one helper e = rw (eq-eqb (q .itemkind) 0 e) refl
 
-  pub item-found-any : (helper : ℕ → Bool) → (q .itemkind ≡ 0 → ⊥) → itemFound r helper q ≡ anyFound (modelOf (policyOf r)) helper (valuesOf (r .items))
+  pub item-found-any : (helper : ℕ → Bool) → (q .itemkind ≡ 0 → ⊥) → itemFound (modelOf (policyOf r)) (r .items) helper q ≡ anyFound (modelOf (policyOf r)) helper (valuesOf (r .items))
   unfolding itemFound
   item-found-any helper d = rw (ne-eqb (q .itemkind) 0 d) refl
 
-  pub aim-owner-session : (v : ℕ) → q .whokind ≡ 0 → aimOf r q v .owner ≡ ownerOf
+  pub aim-owner-session : (v : ℕ) → q .whokind ≡ 0 → aimOf (r .sessions) (r .items) q v .owner ≡ ownerOf
   unfolding aimOf
   aim-owner-session v e = rw (eq-eqb (q .whokind) 0 e) refl
 
-  pub aim-owner-user : (v : ℕ) → q .whokind ≡ 1 → aimOf r q v .owner ≡ q .who
+  pub aim-owner-user : (v : ℕ) → q .whokind ≡ 1 → aimOf (r .sessions) (r .items) q v .owner ≡ q .who
   unfolding aimOf
   aim-owner-user v e = rw (ne-eqb (q .whokind) 0 (λ z. omega arith)) refl
 
-  pub aim-value : (v : ℕ) → v < 256 → aimOf r q v .value ≡ v
+  pub aim-value : (v : ℕ) → v < 256 → aimOf (r .sessions) (r .items) q v .value ≡ v
   unfolding aimOf
   aim-value v h = omega arith
 
-  pub aim-permission : (v : ℕ) → aimOf r q v .permission ≡ q .permission
+  pub aim-permission : (v : ℕ) → aimOf (r .sessions) (r .items) q v .permission ≡ q .permission
   unfolding aimOf
   aim-permission v = refl
 
-  pub aim-items : (v : ℕ) → aimOf r q v .items ≡ r .items .count
+  pub aim-items : (v : ℕ) → aimOf (r .sessions) (r .items) q v .items ≡ r .items .count
   unfolding aimOf
   aim-items v = refl
 
-  pub aim-kind : (v : ℕ) → aimOf r q v .whokind ≡ q .whokind
+  pub aim-kind : (v : ℕ) → aimOf (r .sessions) (r .items) q v .whokind ≡ q .whokind
   unfolding aimOf
   aim-kind v = refl
 
-  pub aim-session : (v : ℕ) → aimOf r q v .session ≡ q .who
+  pub aim-session : (v : ℕ) → aimOf (r .sessions) (r .items) q v .session ≡ q .who
   unfolding aimOf
   aim-session v = refl
 
@@ -164,19 +165,19 @@ module _ (r : Rules) (q : Question) where
 
     module _ (users : List Found) (found : UsersFound (modelOf (policyOf r)) users) where
       abbrev pub tested : ℕ → Bool
-      tested = whoFound users (anyHas users) (sessionFound r q) q
+      tested = whoFound users (anyHas users) (ownSearch r users q) q
 
       pub who-tests : AsksWho (policyOf r) (q .whokind) (q .who) (whoOf q) → (v : ℕ) → v < 256 → (tested v ≡ true) ↔ ((u : ℕ) × WhoReach (modelOf (policyOf r)) (beginning (policyOf r)) (whoOf q) u v)
       who-tests (one-session e h w) v l =
-          rw (w, who-found-session users (anyHas users) (sessionFound r q) v e, session-found e)
+          rw (w, who-found-session users (anyHas users) (ownSearch r users q) v e, session-found e)
           (own-tests (modelOf (policyOf r)) (beginning (policyOf r)) (q .who) ownerOf heldOf v session-byte (stands-open h) (held-byte h) l)
       who-tests (one-user e h w) v l =
           let few : q .who < 16 = omega (arith, h, sound .users) in
-          rw (w, who-found-user users (anyHas users) (sessionFound r q) v e few) (
+          rw (w, who-found-user users (anyHas users) (ownSearch r users q) v e few) (
             λ t. (q .who, (refl, user-lane (modelOf (policyOf r)) (beginning (policyOf r)) _ _ below (sessions-few (policyOf r) sound) few-users users found (q .who) v few l t .1)),
             λ (u, (z, s)). lane-user (modelOf (policyOf r)) (beginning (policyOf r)) _ _ below (sessions-few (policyOf r) sound) few-users users found (q .who) v
                 (subst (λ (a : ℕ). Reach (modelOf (policyOf r)) a v) z s),
           )
       who-tests (any-session e h w) v l =
-          rw (w, who-found-any users (anyHas users) (sessionFound r q) v e)
+          rw (w, who-found-any users (anyHas users) (ownSearch r users q) v e)
           (any-is (modelOf (policyOf r)) (beginning (policyOf r)) _ _ below (sessions-few (policyOf r) sound) few-users users found v l)

@@ -23,8 +23,8 @@ use Rattle.verdict.specs.Meaning.{Counts}
 use Rattle.verdict.specs.Verdict.{pairs, leaks, values}
 use Rattle.verdict.proofs.Theorems.{verdict-is-computed, pairs-are-counted, values-are-counted}
 use Rattle.allowed.specs.Allowed.{modelOf}
-use Rattle.allowed.specs.Basis.{BasisOf}
-use Rattle.allowed.specs.declared.Basis.{Basis}
+use Rattle.allowed_rows.specs.Basis.{BasisOf}
+use Rattle.allowed_rows.specs.declared.Basis.{Basis}
 use Rattle.cells.specs.Leak.{IsLeak}
 use Rattle.live.proofs.Laws.{numbers-are}
 use Rattle.steps.proofs.Files.{file-sound}
@@ -39,16 +39,17 @@ use Rattle.replay.proofs.Theorems.{question-is-asked, replay-is-the-run}
 use Rattle.search.specs.declared.queue.Found.{Found}
 use Rattle.analyser.specs.Told.{noVerdict, safeVerdict, leakVerdict, Told, toldOf, refused}
 use Rattle.analyser.specs.Answer.{sessionValues, itemValues, rowsNeeded, startsBrought, decided, told}
-use Rattle.user_searches.specs.Found.{UsersFound, anyHas}
-use Rattle.analyser.specs.Decide.{rowsFor, startsFound, leakPlace, LeakLeft, DecidedBy}
-use Rattle.goal.specs.Asked.{itemFound}
+use Rattle.user_results.specs.Found.{UsersFound, anyHas}
+use Rattle.decision.specs.Decide.{itemSearch, leakPlace, LeakLeft, DecidedBy}
+use Rattle.decision.specs.declared.Decision.{Decision}
+use Rattle.analyser.specs.Checks.{rowsFor, startsFound, answerBy}
 use Rattle.analyser.specs.Never.{Never}
 use Rattle.analyser.specs.Means.{Means}
 use Rattle.analyser.specs.declared.Answer.{Answer}
 use Rattle.analyser.specs.declared.Verdict.{Verdict}
 use Rattle.analyser.specs.declared.Verdict.the-variants as Verdict
 use Rattle.analyser.proofs.Widths.{sessions-few, items-few, rows-bounded, rowsFor-is}
-use Rattle.user_searches.proofs.UsersReach.{pairs-agree}
+use Rattle.user_results.proofs.UsersReach.{pairs-agree}
 use Rattle.analyser.proofs.ItemsReach.{values-agree}
 use Rattle.analyser.proofs.Asked.{Asks, asks-something, asked-who, asked-which, below, few-users}
 use Rattle.analyser.proofs.Aims.{item-search}
@@ -150,9 +151,12 @@ refused-means file question before n t =
       values = λ d p e. absurd (d v);
     }
 
-module _ (file question before after : List ℕ) (r : Rules) (users : List Found) (a : Answer) (read : reading file ≡ rules (policyOf r))
+module _ (file question before after : List ℕ) (r : Rules) (users : List Found) (d : Decision) (read : reading file ≡ rules (policyOf r))
     (found : UsersFound (modelOf (policyOf r)) users) (all : startsFound r users ≡ true) (asked : asks (policyOf r) question ≡ true)
-    (room : rowsNeeded (policyOf r) ≤ length before) (D : DecidedBy r users (partsOf question) before after a) where
+    (room : rowsNeeded (policyOf r) ≤ length before) (D : DecidedBy r users (partsOf question) before after d) where
+  abbrev a : Answer
+  a = answerBy d
+
   abbrev q : Question
   q = partsOf question
 
@@ -173,7 +177,7 @@ module _ (file question before after : List ℕ) (r : Rules) (users : List Found
   hits = ltb (leakPlace r users q) 256
 
   told-is : toldBy a ≡ record { number = 0; verdict = cond hits leakVerdict safeVerdict; pairs = a .pairs; values = a .values }
-  told-is = ap (λ (v : Verdict). toldOf v (a .pairs) (a .values)) (D .verdict) ∙ told-chosen hits (a .pairs) (a .values)
+  told-is = ap (λ (b : Bool). toldOf (cond b Verdict.Leak Verdict.Safe) (a .pairs) (a .values)) (D .verdict) ∙ told-chosen hits (a .pairs) (a .values)
 
   hits-leak : hits ≡ leaking
   hits-leak = place-agrees r q sound users found asking brought
@@ -185,7 +189,7 @@ module _ (file question before after : List ℕ) (r : Rules) (users : List Found
   values-are =
       D .values
       ∙ values-agree (modelOf (policyOf r)) (beginning (policyOf r)) _ _ (below r q sound) (sessions-few (policyOf r) sound) (items-few (policyOf r) sound) (few-users r q sound) users found
-      (whichOf q) (asked-which (policyOf r) q (asking .item)) (itemFound r (anyHas users) q) (item-search r q sound users found (asking .item))
+      (whichOf q) (asked-which (policyOf r) q (asking .item)) (itemSearch r users q) (item-search r q sound users found (asking .item))
 
   answer-is : toldBy a ≡ decided (policyOf r) question
   unfolding decided
@@ -263,8 +267,9 @@ module _ (file question before after : List ℕ) (r : Rules) (users : List Found
   }
 
 -- what is decided is told, and means what is said of runs
-pub decided-means : (file question before after : List ℕ) (r : Rules) (users : List Found) (a : Answer) → reading file ≡ rules (policyOf r)
+pub decided-means : (file question before after : List ℕ) (r : Rules) (users : List Found) (d : Decision) (a : Answer) → reading file ≡ rules (policyOf r)
     → UsersFound (modelOf (policyOf r)) users → startsFound r users ≡ true → asks (policyOf r) question ≡ true
-    → rowsNeeded (policyOf r) ≤ length before → DecidedBy r users (partsOf question) before after a → Means file question before after (toldBy a) (a .rows)
-decided-means file question before after r users a read found all asked room D =
-    answer-means file question before after r users a read found all asked room D (decided-told file question (length before) r users read found all asked room)
+    → rowsNeeded (policyOf r) ≤ length before → DecidedBy r users (partsOf question) before after d → a ≡ answerBy d → Means file question before after (toldBy a) (a .rows)
+decided-means file question before after r users d a read found all asked room D e =
+    subst (λ (x : Answer). Means file question before after (toldBy x) (x .rows)) (sym e)
+    (answer-means file question before after r users d read found all asked room D (decided-told file question (length before) r users read found all asked room))

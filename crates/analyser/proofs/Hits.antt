@@ -23,7 +23,7 @@ use Rattle.verdict.proofs.Decided.{accesses-is, which-below, who-below, leaks-i
 use Rattle.search.specs.Searched.{valueAt, placeAt, Good}
 use Rattle.search.specs.declared.queue.Found.{Found}
 use Rattle.search.proofs.Paths.{seen-place}
-use Rattle.goal.specs.Asked.{hitValue, hitPlace}
+use Rattle.hits.specs.Hits.{hitValue, hitPlace}
 use Rattle.analyser.proofs.ItemsReach.{reach-listed, ItemSearch}
 
 -- where a test holds of some number below n, the first is below n

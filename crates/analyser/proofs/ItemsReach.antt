@@ -25,8 +25,8 @@ use Rattle.search.proofs.Paths.{chain}
 use Rattle.search.proofs.Theorems.{one-item-is-searched, any-item-is-searched, searched-is-closure}
 use Rattle.leak.specs.Standing.{WhichAimed}
 use Rattle.leak.proofs.Leaks.{one-good}
-use Rattle.user_searches.specs.Found.{UsersFound, anyHas}
-use Rattle.user_searches.proofs.UsersReach.{count-narrow, any-is}
+use Rattle.user_results.specs.Found.{UsersFound, anyHas}
+use Rattle.user_results.proofs.UsersReach.{count-narrow, any-is}
 
 -- a session's value is in the lists
 pub reach-listed : (m : Model) {u v : ℕ} → Reach m u v → m .sessionValue v ≡ true

@@ -24,12 +24,13 @@ use Rattle.search.specs.declared.queue.Found.{Found}
 use Rattle.session_rows.specs.Writing.{writingOf}
 use Rattle.leak.proofs.Theorems.{leak-is-written}
 use Rattle.analyser.specs.Answer.{sessionValues, itemValues, rowsNeeded, startsBrought}
-use Rattle.user_searches.specs.Found.{UsersFound, anyHas, allFound}
-use Rattle.goal.specs.Asked.{itemFound, sessionFound, aimOf}
-use Rattle.analyser.specs.Decide.{startsFound, leakPlace, leakValue, LeakLeft}
+use Rattle.user_results.specs.Found.{UsersFound, anyHas, allFound}
+use Rattle.goal.specs.Asked.{aimOf}
+use Rattle.decision.specs.Decide.{itemSearch, ownSearch, leakPlace, leakValue, LeakLeft}
+use Rattle.analyser.specs.Checks.{startsFound}
 use Rattle.analyser.proofs.Widths.{needed-is, sessions-few, items-few}
 use Rattle.analyser.proofs.Starts.{brought-of}
-use Rattle.user_searches.proofs.UsersReach.{all-agree}
+use Rattle.user_results.proofs.UsersReach.{all-agree}
 use Rattle.analyser.proofs.Hits.{Hit, hit-here, hits-agree}
 use Rattle.analyser.proofs.Asked.{Asks, asked-which, aim-permission, below, few-users, tested, who-tests}
 use Rattle.analyser.proofs.Aims.{item-search, hit-aimed, pen-stands}
@@ -54,9 +55,9 @@ module _ (r : Rules) (q : Question) (sound : Sound (policyOf r)) (users : List F
   all-brought t = brought-of (policyOf r) sound (sym all-found-agree ∙ t)
 
   leak-hit : leakPlace r users q < 256
-      → Hit (modelOf (policyOf r)) (q .permission) (tested r q sound users found) (itemFound r (anyHas users) q) (leakPlace r users q) (leakValue r users q)
+      → Hit (modelOf (policyOf r)) (q .permission) (tested r q sound users found) (itemSearch r users q) (leakPlace r users q) (leakValue r users q)
   unfolding leakPlace leakValue
-  leak-hit h = hit-here (modelOf (policyOf r)) (q .permission) (tested r q sound users found) (itemFound r (anyHas users) q) h
+  leak-hit h = hit-here (modelOf (policyOf r)) (q .permission) (tested r q sound users found) (itemSearch r users q) h
 
   module _ (asked : Asks (policyOf r) q) (brought : Brought (modelOf (policyOf r)) (beginning (policyOf r))) where
     -- the verdict
@@ -65,7 +66,7 @@ module _ (r : Rules) (q : Question) (sound : Sound (policyOf r)) (users : List F
     unfolding leakPlace
     place-agrees =
         hits-agree (modelOf (policyOf r)) (beginning (policyOf r)) _ _ (below r q sound) (sessions-few (policyOf r) sound) (items-few (policyOf r) sound) users brought (whoOf q)
-        (tested r q sound users found) (who-tests r q sound users found (asked .who)) (whichOf q) (asked-which (policyOf r) q (asked .item)) (itemFound r (anyHas users) q)
+        (tested r q sound users found) (who-tests r q sound users found (asked .who)) (whichOf q) (asked-which (policyOf r) q (asked .item)) (itemSearch r users q)
         (item-search r q sound users found (asked .item)) (q .permission)
 
     -- what is written is a leak, and short
@@ -75,14 +76,14 @@ module _ (r : Rules) (q : Question) (sound : Sound (policyOf r)) (users : List F
         let e = needed-is (policyOf r) in
         let (x, y) =
         leak-is-written (modelOf (policyOf r)) (beginning (policyOf r)) (sessionValues (policyOf r)) (itemValues (policyOf r)) (length before) (below r q sound)
-        (sessions-few (policyOf r) sound) (items-few (policyOf r) sound) (omega (arith, e, room)) users (L .by) (itemFound r (anyHas users) q) (leakPlace r users q)
-        (sessionFound r q) (aimOf r q (leakValue r users q)) (whoOf q) (whichOf q)
+        (sessions-few (policyOf r) sound) (items-few (policyOf r) sound) (omega (arith, e, room)) users (L .by) (itemSearch r users q) (leakPlace r users q)
+        (ownSearch r users q) (aimOf (r .sessions) (r .items) q (leakValue r users q)) (whoOf q) (whichOf q)
         (hit-aimed r q sound users found (L .by) (L .names) asked brought (leakPlace r users q) (leakValue r users q) (leak-hit h)) (writingOf (L .pen) [])
         (rw (L .ready .at) refl) (pen-stands r q sound users found (L .pen) (L .ready))
         in
         let long : length (take n after) ≡ n = length-take-le n after (L .inside) in
         let front = ap length (L .front) in (
           subst (λ (k : ℕ). IsLeak (modelOf (policyOf r)) (beginning (policyOf r)) (whoOf q) (whichOf q) k (take n after)) (aim-permission r q (leakValue r users q))
-              (subst (IsLeak (modelOf (policyOf r)) (beginning (policyOf r)) (whoOf q) (whichOf q) (aimOf r q (leakValue r users q) .permission)) (sym (L .front)) x),
+              (subst (IsLeak (modelOf (policyOf r)) (beginning (policyOf r)) (whoOf q) (whichOf q) (aimOf (r .sessions) (r .items) q (leakValue r users q) .permission)) (sym (L .front)) x),
           omega (arith, e, y, long, front),
         )

@@ -1,4 +1,3 @@
-pub mod Decided  -- what deciding comes to
 pub mod Widths  -- of a file's rules: widths, how values are bounded, what stands at the start
 pub mod ItemsReach  -- the search of items is what one that is asked about can have
 pub mod Hits  -- there is a hit exactly where the verdict is a leak

@@ -22,7 +22,7 @@ use Rattle.allowed.proofs.ModelLaws.{model-session-listed, model-item-listed}
 use Rattle.starting.specs.Start.{beginning}
 use Rattle.starting.proofs.Beginning.{beginning-item, beginning-items}
 use Rattle.analyser.specs.Answer.{sessionValues, itemValues, rowsNeeded}
-use Rattle.analyser.specs.Decide.{rowsFor}
+use Rattle.analyser.specs.Checks.{rowsFor}
 
 module _ (s o : ℕ) where
   pub rows-session : 8 < s → 0 ≡ rowsFor s o

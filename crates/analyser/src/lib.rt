@@ -6,18 +6,15 @@ ghost use lib.ListN.{length};
 ghost use Rattle.policy.specs.Policy.{width};
 ghost use Rattle.policy.specs.Rules.{attrsOf, policyOf};
 ghost use Rattle.rules.specs.Answers.{reading, rules as read};
-ghost use Rattle.allowed.specs.Basis.{BasisOf};
-ghost use Rattle.allowed.specs.Scratch.{Scratch};
+ghost use Rattle.allowed_rows.specs.Basis.{BasisOf};
+ghost use Rattle.allowed_rows.specs.Scratch.{Scratch};
 ghost use Rattle.analyser.specs.Told.{toldOf};
-ghost use Rattle.user_searches.specs.Found.{userFound};
-ghost use Rattle.analyser.specs.Decide.{rowsFor, startsFound, DecidedBy};
+ghost use Rattle.analyser.specs.Checks.{rowsFor, startsFound, answerBy};
 ghost use Rattle.analyser.specs.Means.{Means};
-use allowed::Basis;
-use allowed::basis_of;
-use goal::about;
-use goal::aim;
-use goal::hit;
-use leak::write_leak;
+use allowed_rows::Basis;
+use allowed_rows::basis_of;
+use decision::Decision;
+use decision::decide;
 use policy::Rules;
 use policy::shape::class_width;
 use replay::question::Question;
@@ -93,61 +90,19 @@ fn widest(rules: Rules) -> usize
 fn starts_brought(rules: Rules, users: [Found; 16]) -> bool
     ensures { λ r. ⌜ r ≡ startsFound rules users ⌝ }
 {
-    user_searches::all_brought(users, rules.sessions)
+    user_results::all_brought(users, rules.sessions)
 }
 
-// Decides a question that is good, of rules whose starting sessions could have been brought about. Formulas are prepared in `area`
-// and `steps`.
-fn decide(
-    rules: Rules,
-    users: [Found; 16],
-    q: Question,
-    rows: &mut [u64],
-    basis: Basis,
-    area: &mut [u64],
-    steps: &mut [u64],
-) -> Answer
-    requires { ⌜ ((u : ℕ) → u < 16 → userFound users u .len ≤ 256) ⌝ }
-    requires { ⌜ BasisOf rules basis ⌝ }
-    requires { ⌜ Scratch basis (now steps) (now area) ⌝ }
-    requires { ⌜ q .permission < basis .permissions ⌝ }
-    ensures { λ r. ⌜ DecidedBy rules users q (now (rows .entry)) (now (rows .exit)) r ⌝ }
+// The answer to a question that was decided.
+fn answer_of(d: Decision) -> Answer
+    ensures { λ r. ⌜ r ≡ answerBy d ⌝ }
 {
-    let asked = about::asked_user(q);
-    let helpers = user_searches::helpers(users);
-    let items = about::item_values(rules, helpers, q, basis, area, steps);
-    let own = about::session_values(rules, q, basis, area, steps);
-    let who = about::who_values(users, helpers, own, q);
-    let pairs = user_searches::count_pairs(users);
-    let values = items.len;
-    let hit = hit::first_hit(rules, q.permission, who, items, basis, area, steps);
-    let place = hit.place;
-    if 256 <= place {
-        return Answer {
-            verdict: Verdict::Safe,
-            pairs,
-            values,
-            rows: 0,
-        };
-    }
-    let value = hit.value;
-    let by = user_searches::name_users(users, asked);
-    let pen = aim::first_pen(rules.sessions, asked);
-    let end = write_leak(
-        rows,
-        pen,
-        users,
-        by,
-        items,
-        place,
-        own,
-        about::aim_of(rules, q, value),
-    );
+    let verdict = if d.leak { Verdict::Leak } else { Verdict::Safe };
     Answer {
-        verdict: Verdict::Leak,
-        pairs,
-        values: items.len,
-        rows: end.at,
+        verdict,
+        pairs: d.pairs,
+        values: d.values,
+        rows: d.rows,
     }
 }
 
@@ -175,15 +130,9 @@ fn answer_in(
     if rows.len() < rows_needed(rules) {
         return refused(11);
     }
-    decide(
-        rules,
-        users,
-        Question::of(question),
-        rows,
-        basis,
-        area,
-        &mut steps,
-    )
+    let q = Question::of(question);
+    let decision = decide(rules, users, q, rows, basis, area, &mut steps);
+    answer_of(decision)
 }
 
 // Answers a question of a file: refused by the first of the file's number, 9, 10, 11, and then counts and rows are 0; safe exactly when no run

@@ -1,5 +1,4 @@
 pub mod Laws  -- what nodes say, one after another
 pub mod BitLaws  -- values cut to their bits
 pub mod TableLaws  -- tables of all operands, filled in class by class
-pub mod FieldLaws  -- where the operands of one holder lie
 pub mod ListLaws  -- list numbers do not matter for what formulas say

@@ -3,7 +3,7 @@
 -- Assumes nothing.
 use mathlib.Core.Bool.{cond}
 use mathlib.Core.List.{List}
-use Prim.Native.Nat.{ℕ, suc, _/_, _%_, _^_, min}
+use Prim.Native.Nat.{ℕ, suc, _/_, _%_, _^_}
 use lib.Dec.{ltb, eqb}
 use lib.ListN.{getD, drop}
 use Rattle.policy.specs.Policy.{Attr, noAttr, Lists, bitsFor, width}
@@ -36,12 +36,3 @@ operand c v x =
 -- the size of the list of the attribute that a value operand names; 0 where it names none
 unfoldable pub sizeOfOperand : Lists → ℕ → ℕ
 sizeOfOperand c x = cond (ltb (holderOf x) 5) (attrOf (ofHolder c (holderOf x)) (placeOf x) .size) 0
-
--- how many bits stand right of the value of operand x in the packed value of holder h, which has the attributes l: at most 8, and 0 where the operand is
--- of another holder
-unfoldable pub shiftIn : List Attr → ℕ → ℕ → ℕ
-shiftIn l h x = cond (eqb (holderOf x) h) (min (width (drop (suc (placeOf x)) l)) 8) 0
-
--- how many bits the value has itself: none where the operand is of another holder
-unfoldable pub bitsIn : List Attr → ℕ → ℕ → ℕ
-bitsIn l h x = cond (eqb (holderOf x) h) (bitsFor (attrOf l (placeOf x))) 0

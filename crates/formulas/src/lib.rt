@@ -1,16 +1,13 @@
 // What a formula says of the values that its holders have.
 ghost use mathlib.Core.Path.{_≡_};
 ghost use Prim.Native.Nat.{_≤_};
-ghost use Rattle.bits.specs.Packed.{tab};
-ghost use Rattle.policy.specs.Rules.{attrsOf, listsOf, nodesOf};
+ghost use Rattle.policy.specs.Rules.{listsOf, nodesOf};
 ghost use Rattle.formulas.specs.Meaning.{holds as holdsOf};
-ghost use Rattle.formulas.specs.Value.{shiftIn, bitsIn};
 ghost use Rattle.formulas.specs.Parts.{Said};
 
 pub mod node;
 pub mod table;
 
-use policy::Class;
 use policy::Classes;
 
 // The packed values of the holders that a formula can look at.
@@ -20,25 +17,6 @@ pub struct Holders {
     pub newsession: u8,
     pub item: u8,
     pub newitem: u8,
-}
-
-// Where the value of each operand of one holder begins in the holder's packed value, and how many bits it has there.
-pub struct Fields {
-    pub shifts: [u8; 256],
-    pub bits: [u8; 256],
-}
-
-// Where the operands of holder h lie, which has the attributes of the class. Those of other holders lie nowhere.
-pub fn fields_of(class: Class, h: u8) -> Fields
-    ensures { λ r. ⌜ r .shifts ≡ tab (shiftIn (attrsOf class) h) 0 256 ⌝ }
-    ensures { λ r. ⌜ r .bits ≡ tab (bitsIn (attrsOf class) h) 0 256 ⌝ }
-{
-    let mut shifts: [u8; 256] = [0; 256];
-    let mut bits: [u8; 256] = [0; 256];
-    if h < 8 {
-        table::lay(&mut shifts, &mut bits, h as usize, class);
-    }
-    Fields { shifts, bits }
 }
 
 // What formula f says from node k on, where the answers of the first k nodes are known. The value of every operand is worked out once.

@@ -2,11 +2,11 @@
 // five of which have attributes, the sixth the constants, and the last two nothing.
 ghost use mathlib.Core.Path.{_≡_};
 ghost use mathlib.Core.Bool.{cond};
-ghost use Prim.Native.Nat.{ℕ, suc, _+_, _*_, _/_, _%_, _^_, _≤_, _<_, min};
+ghost use Prim.Native.Nat.{ℕ, _+_, _*_, _%_, _^_, _≤_, _<_, min};
 ghost use lib.Dec.{eqb};
-ghost use lib.ListN.{length, replicate, drop};
+ghost use lib.ListN.{length, replicate};
 ghost use Rattle.bits.specs.Packed.{tab};
-ghost use Rattle.policy.specs.Policy.{bitsFor, width};
+ghost use Rattle.policy.specs.Policy.{bitsFor};
 ghost use Rattle.policy.specs.Rules.{attrsOf, listsOf};
 ghost use Rattle.formulas.specs.Value.{operand, sizeOfOperand, attrOf, partOf};
 ghost use Rattle.formulas.specs.Parts.{placed, Filling};
@@ -36,7 +36,7 @@ fn last(v: u64, bits: u8) -> u8
 }
 
 // x and y are stored at place k of the holders g and h.
-fn place(table: &mut [u8], g: usize, h: usize, k: usize, x: u8, y: u8)
+pub fn place(table: &mut [u8], g: usize, h: usize, k: usize, x: u8, y: u8)
     requires { ⌜ (g ≤ h) × (k < 32) × (32 * h + 32 ≤ length (now table)) ⌝ }
     ensures { λ r. ⌜ now (table .exit) ≡ placed (now (table .entry)) g h k x y ⌝ }
 {
@@ -82,25 +82,6 @@ pub fn byte_of(n: usize) -> u8
     ensures { λ r. ⌜ r ≡ min n 8 ⌝ }
 {
     if n < 8 { n as u8 } else { 8 }
-}
-
-// At the places of holder h are stored how many bits stand right of each attribute's value, at most 8, and how many it has itself, the last
-// attribute first.
-pub(super) fn lay(shifts: &mut [u8], bits: &mut [u8], h: usize, class: Class)
-    requires { ⌜ (32 * h + 32 ≤ length (now shifts)) × (32 * h + 32 ≤ length (now bits)) ⌝ }
-    ensures { λ r. ⌜ Filling (λ i k. min (width (drop (suc k) (attrsOf class))) 8) h h 0 (now (shifts .entry)) (now (shifts .exit)) ⌝ }
-    ensures { λ r. ⌜ Filling (λ i k. bitsFor (attrOf (attrsOf class) k)) h h 0 (now (bits .entry)) (now (bits .exit)) ⌝ }
-{
-    let mut left: usize = 0;
-    let mut k = byte_of(class.count as usize) as usize;
-    while 0 < k {
-        k -= 1;
-        let own = bits_for(byte_at(&class.kinds, k), byte_at(&class.sizes, k));
-        let right = byte_of(left);
-        place(shifts, h, h, k, right, right);
-        place(bits, h, h, k, own, own);
-        left += own as usize;
-    }
 }
 
 // The values and sizes of all operands are stored.

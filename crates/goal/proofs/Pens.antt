@@ -11,7 +11,7 @@ use Rattle.policy.specs.Rules.{sessionsOf}
 use Rattle.policy.specs.declared.Sessions.{Sessions}
 use Rattle.policy.proofs.Laws.{sessions-length}
 use Rattle.session_rows.specs.declared.Pen.{Pen}
-use Rattle.user_searches.proofs.Starts.{session-at}
+use Rattle.user_results.proofs.Starts.{session-at}
 use Rattle.goal.specs.Asked.{PenReady}
 
 -- of the first k starting sessions those that are kept stand

@@ -1,139 +1,42 @@
--- Laws of what a question asks about. In order: the first hit; the searches that a question asks for; what a leak aims at.
-use mathlib.Core.Path.{_≡_, refl, sym, ap, ap₂, _∙_}
-use mathlib.Core.Bool.{Bool, true, false, _&&_, cond}
+-- Laws of what a question asks about. In order: the searches that a question asks for; what a leak aims at.
+use mathlib.Core.Path.{_≡_, refl}
+use mathlib.Core.Bool.{Bool, false, cond}
 use mathlib.Core.List.{List}
-use mathlib.Core.Logic.{_⊎_, ⊎-elim}
-use Prim.Native.Nat.{ℕ, zero, suc, _+_, _%_, _≤_, _<_}
-use native.Mathlib.Decide.{decLt}
-use native.Mathlib.Omega.{arith}
-use borrow.Author.Tests.{lt-ltb, le-ltb, ltb-true, eq-eqb, ne-eqb}
-use lib.Dec.{ltb, eqb}
+use Prim.Native.Nat.{ℕ, _%_, _≤_, _<_}
+use borrow.Author.Tests.{lt-ltb, le-ltb, eq-eqb, ne-eqb}
+use lib.Dec.{eqb}
 use lib.ListN.{getD}
-use Rattle.lanes.specs.Lanes.{laneOf, Lanes, firstFrom}
-use Rattle.lanes.proofs.Laws.{first-le, first-is, first-here}
-use Rattle.policy.specs.Rules.{policyOf, valuesOf}
-use Rattle.policy.specs.declared.Rules.{Rules}
+use Rattle.lanes.specs.Lanes.{laneOf}
+use Rattle.policy.specs.Rules.{valuesOf}
+use Rattle.policy.specs.declared.Sessions.{Sessions}
+use Rattle.policy.specs.declared.Values.{Values}
 use Rattle.runs.specs.Model.{Model}
-use Rattle.runs.specs.Edge.{accesses}
-use Rattle.allowed.specs.Allowed.{modelOf}
 use Rattle.search.specs.Queue.{nothing}
 use Rattle.search.specs.Sessions.{ownFound}
 use Rattle.search.specs.Items.{oneFound, anyFound}
 use Rattle.search.specs.declared.queue.Found.{Found}
 use Rattle.leak.specs.declared.Aim.{Aim}
 use Rattle.replay.specs.declared.question.Question.{Question}
-use Rattle.user_searches.specs.Found.{userFound}
-use Rattle.goal.specs.Asked.{hitValue, hitPlace}
+use Rattle.user_results.specs.Found.{userFound}
 use Rattle.goal.specs.Asked.{itemFound, sessionFound, whoFound, aimOf}
-
--- the first hit
-
-first-ext : (f g : ℕ → Bool) (k n : ℕ) → ((v : ℕ) → v < k + n → f v ≡ g v) → firstFrom f k n ≡ firstFrom g k n
-unfolding firstFrom
-first-ext f g k zero h = refl
-first-ext f g k (suc n) h = rw (h k (omega arith), first-ext f g (suc k) n (λ v l. h v (omega arith))) refl
-
--- the first session value among some that has the permission on an item with value o; 256 where there is none
-abbrev pub hitOn : Model → ℕ → (ℕ → Bool) → ℕ → ℕ
-hitOn m permission among o = firstFrom (λ v. among v && accesses m permission v o) 0 256
-
-pub hit-few : (m : Model) (permission : ℕ) (among : ℕ → Bool) (o : ℕ) → hitOn m permission among o ≤ 256
-hit-few m permission among o = first-le (λ v. among v && accesses m permission v o) 0 256
-
-module _ (m : Model) (permission : ℕ) (q : Found) where
-  module _ (who : ℕ → Bool) where
-    -- there is a hit at place i
-    abbrev pub hit : ℕ → Bool
-    hit i = ltb i (q .len) && ltb (hitValue m permission who q i) 256
-
-    hit-is : (r : ℕ) → r ≤ 256 → (r < 256 → hit r ≡ true) → ((k : ℕ) → k < r → hit k ≡ false) → r ≡ hitPlace m permission who q
-    unfolding hitPlace
-    hit-is r b here before = first-is hit 0 256 r (omega arith) b here (λ v p l. before v l)
-
-    no-hit : (k : ℕ) → hitValue m permission who q k ≡ 256 → hit k ≡ false
-    no-hit k e = ap (λ (n : ℕ). ltb k (q .len) && ltb n 256) e ∙ neither (ltb k (q .len))
-      where
-        neither : (b : Bool) → b && false ≡ false
-        neither true = refl
-        neither false = refl
-
-    pub hit-inside : hitPlace m permission who q < 256 → hitPlace m permission who q < q .len
-    unfolding hitPlace
-    hit-inside h = ltb-true _ _ (left (ltb (firstFrom hit 0 256) (q .len)) _ (first-here hit 0 256 h))
-      where
-        left : (a b : Bool) → a && b ≡ true → a ≡ true
-        left true b e = refl
-        left false b e = e
-
-  -- `own` are the values in the lists, `both` those among them that are asked about; n places are asked, and those below i have no hit
-  module _ (who own both : List ℕ) (S : Lanes (m .sessionValue) own) (B : Lanes (λ (v : ℕ). laneOf who v && laneOf own v) both)
-      (order : List ℕ) (O : order ≡ q .order) (n i : ℕ) (few : (n ≤ q .len) × (n ≤ 256) × ((n ≡ q .len) ⊎ (n ≡ 256)))
-      (none : (k : ℕ) → k < i → hitOn m permission (laneOf both) (getD order k 0) ≡ 256) where
-    abbrev Hit : ℕ → ℕ → Type 0
-    Hit place value = (place ≡ hitPlace m permission (laneOf who) q) × (value ≡ cond (ltb place 256) (hitValue m permission (laneOf who) q place) 256)
-
-    hit-on : (k : ℕ) → hitOn m permission (laneOf both) (getD order k 0) ≡ hitValue m permission (laneOf who) q k
-    unfolding hitValue
-    hit-on k =
-        ap (λ (l : List ℕ). hitOn m permission (laneOf both) (getD l k 0)) O
-        ∙ first-ext _ _ 0 256
-        (λ v h.
-        ap (λ (b : Bool). b && accesses m permission v (getD (q .order) k 0)) (B .each v h ∙ ap (λ (b : Bool). laneOf who v && b) (S .each v h))
-        ∙ apart (laneOf who v) (m .sessionValue v) (accesses m permission v (getD (q .order) k 0)))
-      where
-        apart : (w s a : Bool) → (w && s) && a ≡ w && (s && a)
-        apart true s a = refl
-        apart false s a = refl
-
-    before : (k : ℕ) → k < i → hit (laneOf who) k ≡ false
-    before k h = no-hit (laneOf who) k (sym (hit-on k) ∙ none k h)
-
-    pub hit-here : (value : ℕ) → i < n → value < 256 → value ≡ hitOn m permission (laneOf both) (getD order i 0) → Hit i value
-    hit-here value h l e =
-        let is = e ∙ hit-on i in (
-          hit-is (laneOf who) i (omega arith) (λ _. ap₂ _&&_ (lt-ltb i (q .len) (omega arith)) (ap (λ (x : ℕ). ltb x 256) (sym is) ∙ lt-ltb value 256 l)) before,
-          is ∙ sym (ap (λ (b : Bool). cond b (hitValue m permission (laneOf who) q i) 256) (lt-ltb i 256 (omega arith))),
-        )
-
-    pub hit-nowhere : n ≤ i → Hit 256 256
-    hit-nowhere h = (
-      hit-is (laneOf who) 256 (omega arith) (λ l. absurd (omega arith))
-          (λ k l.
-          elim (decLt k i) [
-            | yes a ↦ before k a
-            | no a ↦ ap (λ (b : Bool). b && ltb (hitValue m permission (laneOf who) q k) 256)
-                (le-ltb k (q .len) (⊎-elim (λ (e : n ≡ q .len). let x : q .len ≤ k = omega arith in x) (λ (e : n ≡ 256). absurd (omega arith)) (few .2)))
-          ]),
-      refl,
-    )
-
-  -- who is asked about counts below 256 only
-  module _ (f g : ℕ → Bool) (same : (v : ℕ) → v < 256 → f v ≡ g v) where
-    pub hit-value-ext : (i : ℕ) → hitValue m permission f q i ≡ hitValue m permission g q i
-    unfolding hitValue
-    hit-value-ext i = first-ext _ _ 0 256 (λ v h. ap (λ (b : Bool). b && (m .sessionValue v && accesses m permission v (getD (q .order) i 0))) (same v h))
-
-    pub hit-place-ext : hitPlace m permission f q ≡ hitPlace m permission g q
-    unfolding hitPlace
-    hit-place-ext = first-ext _ _ 0 256 (λ i h. ap (λ (n : ℕ). ltb i (q .len) && ltb n 256) (hit-value-ext i))
 
 -- the searches that a question asks for
 
-module _ (r : Rules) (q : Question) where
-  module _ (helper : ℕ → Bool) where
-    pub item-one : q .itemkind ≡ 0 → oneFound (modelOf (policyOf r)) helper (q .item) (getD (r .items .values) (q .item) 0) ≡ itemFound r helper q
-    unfolding itemFound
-    item-one e = simp (eq-eqb (q .itemkind) 0 e)
+module _ (m : Model) (items : Values) (q : Question) (helper : ℕ → Bool) where
+  pub item-one : q .itemkind ≡ 0 → oneFound m helper (q .item) (getD (items .values) (q .item) 0) ≡ itemFound m items helper q
+  unfolding itemFound
+  item-one e = simp (eq-eqb (q .itemkind) 0 e)
 
-    pub item-any : (q .itemkind ≡ 0 → ⊥) → anyFound (modelOf (policyOf r)) helper (valuesOf (r .items)) ≡ itemFound r helper q
-    unfolding itemFound
-    item-any d = simp (ne-eqb (q .itemkind) 0 d)
+  pub item-any : (q .itemkind ≡ 0 → ⊥) → anyFound m helper (valuesOf items) ≡ itemFound m items helper q
+  unfolding itemFound
+  item-any d = simp (ne-eqb (q .itemkind) 0 d)
 
-  pub session-own : q .whokind ≡ 0 → ownFound (modelOf (policyOf r)) (getD (r .sessions .users) (q .who) 0) (getD (r .sessions .values) (q .who) 0) ≡ sessionFound r q
+module _ (m : Model) (starting : Sessions) (q : Question) where
+  pub session-own : q .whokind ≡ 0 → ownFound m (getD (starting .users) (q .who) 0) (getD (starting .values) (q .who) 0) ≡ sessionFound m starting q
   unfolding sessionFound
   session-own e = simp (eq-eqb (q .whokind) 0 e)
 
-  pub session-none : (q .whokind ≡ 0 → ⊥) → nothing ≡ sessionFound r q
+  pub session-none : (q .whokind ≡ 0 → ⊥) → nothing ≡ sessionFound m starting q
   unfolding sessionFound
   session-none d = simp (ne-eqb (q .whokind) 0 d)
 
@@ -159,7 +62,7 @@ pub who-ext : (users : List Found) (f g : ℕ → Bool) (own : Found) (q : Quest
 unfolding whoFound
 who-ext users f g own q v e = rw e refl
 
-pub aim-is : (r : Rules) (q : Question) (value owner : ℕ) → owner ≡ cond (eqb (q .whokind) 0) (getD (r .sessions .users) (q .who) 0) (q .who)
-    → _≡_ {A = Aim} record { whokind = q .whokind; session = q .who; owner = owner; value = value % 256; items = r .items .count; permission = q .permission } (aimOf r q value)
+pub aim-is : (starting : Sessions) (items : Values) (q : Question) (value owner : ℕ) → owner ≡ cond (eqb (q .whokind) 0) (getD (starting .users) (q .who) 0) (q .who)
+    → _≡_ {A = Aim} record { whokind = q .whokind; session = q .who; owner = owner; value = value % 256; items = items .count; permission = q .permission } (aimOf starting items q value)
 unfolding aimOf
-aim-is r q value owner e = rw e refl
+aim-is starting items q value owner e = rw e refl

@@ -4,14 +4,13 @@ ghost use mathlib.Core.Bool.{cond};
 ghost use lib.Dec.{eqb};
 ghost use lib.ListN.{getD};
 ghost use Rattle.lanes.specs.Lanes.{laneOf, Lanes};
-ghost use Rattle.allowed.specs.Basis.{BasisOf};
-ghost use Rattle.allowed.specs.Scratch.{Scratch};
+ghost use Rattle.allowed_rows.specs.Basis.{modelBy, InLists};
+ghost use Rattle.allowed_rows.specs.Scratch.{Scratch};
 ghost use Rattle.goal.specs.Asked.{itemFound, sessionFound, whoFound, aimOf};
-use allowed::Basis;
+use allowed_rows::Basis;
 use item_search::any_item;
 use item_search::one_item;
 use leak::Aim;
-use policy::Rules;
 use policy::Sessions;
 use policy::Values;
 use policy::shape::byte_at;
@@ -54,53 +53,43 @@ fn seen_of(q: Found) -> [u64; 4]
 
 // The search of the values of the item that is asked about, or of any. Formulas are prepared in `area` and `steps`.
 pub fn item_values(
-    rules: Rules,
-    helpers: [u64; 4],
-    q: Question,
     basis: Basis,
+    nodes: &[u32],
     area: &mut [u64],
     steps: &mut [u64],
+    items: Values,
+    helpers: [u64; 4],
+    q: Question,
 ) -> Found
-    requires { ⌜ BasisOf rules basis ⌝ }
+    requires { ⌜ InLists basis (now nodes) ⌝ }
     requires { ⌜ Scratch basis (now steps) (now area) ⌝ }
-    ensures { λ r. ⌜ r ≡ itemFound rules (laneOf helpers) q ⌝ }
+    ensures { λ r. ⌜ r ≡ itemFound (modelBy basis (now (nodes .entry))) items (laneOf helpers) q ⌝ }
 {
     if q.itemkind == Question::ITEM {
-        return one_item(
-            basis,
-            &rules.nodes,
-            area,
-            steps,
-            helpers,
-            q.item,
-            value_of(rules.items, q.item as usize),
-        );
+        let value = value_of(items, q.item as usize);
+        return one_item(basis, nodes, area, steps, helpers, q.item, value);
     }
-    any_item(basis, &rules.nodes, area, steps, helpers, rules.items)
+    any_item(basis, nodes, area, steps, helpers, items)
 }
 
 // The search of the values of the session that is asked about, or none. Formulas are prepared in `area` and `steps`.
 pub fn session_values(
-    rules: Rules,
-    q: Question,
     basis: Basis,
+    nodes: &[u32],
     area: &mut [u64],
     steps: &mut [u64],
+    starting: Sessions,
+    q: Question,
 ) -> Found
-    requires { ⌜ BasisOf rules basis ⌝ }
+    requires { ⌜ InLists basis (now nodes) ⌝ }
     requires { ⌜ Scratch basis (now steps) (now area) ⌝ }
-    ensures { λ r. ⌜ r ≡ sessionFound rules q ⌝ }
+    ensures { λ r. ⌜ r ≡ sessionFound (modelBy basis (now (nodes .entry))) starting q ⌝ }
 {
     if q.whokind == Question::SESSION {
         let k = q.who as usize;
-        return own_values(
-            basis,
-            &rules.nodes,
-            area,
-            steps,
-            owner_of(rules.sessions, k),
-            held_of(rules.sessions, k),
-        );
+        let owner = owner_of(starting, k);
+        let held = held_of(starting, k);
+        return own_values(basis, nodes, area, steps, owner, held);
     }
     nothing()
 }
@@ -123,26 +112,26 @@ pub fn who_values(users: [Found; 16], helpers: [u64; 4], own: Found, q: Question
 }
 
 // The owner of the session that is asked about, or the user.
-fn aim_owner(rules: Rules, q: Question) -> u8
-    ensures { λ r. ⌜ r ≡ cond (eqb (q .whokind) 0) (getD (rules .sessions .users) (q .who) 0) (q .who) ⌝ }
+fn aim_owner(starting: Sessions, q: Question) -> u8
+    ensures { λ r. ⌜ r ≡ cond (eqb (q .whokind) 0) (getD (starting .users) (q .who) 0) (q .who) ⌝ }
 {
     if q.whokind == Question::SESSION {
-        return owner_of(rules.sessions, q.who as usize);
+        return owner_of(starting, q.who as usize);
     }
     q.who
 }
 
 // What the leak aims at.
-pub fn aim_of(rules: Rules, q: Question, value: usize) -> Aim
-    ensures { λ r. ⌜ r ≡ aimOf rules q value ⌝ }
+pub fn aim_of(starting: Sessions, items: Values, q: Question, value: usize) -> Aim
+    ensures { λ r. ⌜ r ≡ aimOf starting items q value ⌝ }
 {
-    let owner = aim_owner(rules, q);
+    let owner = aim_owner(starting, q);
     Aim {
         whokind: q.whokind,
         session: q.who as u64,
         owner,
         value: (value % 256) as u8,
-        items: rules.items.count as u64,
+        items: items.count as u64,
         permission: q.permission,
     }
 }

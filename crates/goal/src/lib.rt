@@ -1,4 +1,3 @@
-// What a question asks about: the searches that it needs, the first hit, what a leak aims at, and the pen before its first row.
+// What a question asks about: the searches that it needs, what a leak aims at, and the pen before its first row.
 pub mod about;
 pub mod aim;
-pub mod hit;

@@ -6,10 +6,10 @@ use Prim.Native.Nat.{ℕ}
 use Rattle.lanes.specs.Lanes.{laneOf, Lanes}
 use Rattle.policy.specs.Rules.{listsOf}
 use Rattle.alike.specs.Alike.{OneOfEach}
-use Rattle.allowed.specs.Asked.{nodesAt}
-use Rattle.allowed.specs.Basis.{modelBy, InLists}
-use Rattle.allowed.specs.declared.Basis.{Basis}
-use Rattle.allowed.proofs.AlikeLaws.{same-modifies}
+use Rattle.allowed_rows.specs.Asked.{nodesAt}
+use Rattle.allowed_rows.specs.Basis.{modelBy, InLists}
+use Rattle.allowed_rows.specs.declared.Basis.{Basis}
+use Rattle.allowed_rows.proofs.AlikeLaws.{same-modifies}
 use Rattle.search.specs.Items.{readyOf}
 use Rattle.search.proofs.ItemLaws.{ready-lanes}
 use Rattle.search.proofs.Fewer.{Fewer}

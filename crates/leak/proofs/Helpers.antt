@@ -25,7 +25,8 @@ use Rattle.search.proofs.Paths.{seen-place}
 use Rattle.search.proofs.Theorems.{sessions-are-searched}
 use Rattle.session_rows.specs.Writing.{Writing, wrote, stood}
 use Rattle.session_rows.specs.Way.{wayRows, brought, helped, helpedBy}
-use Rattle.leak.specs.Standing.{Stands, named, Ready}
+use Rattle.leak.specs.Standing.{Stands, Ready}
+use Rattle.user_results.specs.Found.{named}
 use Rattle.leak.proofs.Rows.{Done, done-append}
 use Rattle.leak.proofs.Ways.{search-within, way-short, way-length, way-new}
 

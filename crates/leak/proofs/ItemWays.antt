@@ -26,7 +26,7 @@ use Rattle.search.specs.declared.queue.Found.{Found}
 use Rattle.search.proofs.Paths.{chain}
 use Rattle.session_rows.specs.Writing.{Writing, rowOf, wrote}
 use Rattle.leak.specs.Leak.{linked, itemTo, itemOf}
-use Rattle.leak.specs.Standing.{named}
+use Rattle.user_results.specs.Found.{named}
 use Rattle.leak.proofs.Rows.{Done, done-one}
 use Rattle.leak.proofs.Ways.{search-within, way-short, way-byte}
 use Rattle.leak.proofs.Helpers.{wrote-fits, longer, Sofar, sofar-less, stands-longer, Able, Helps, helps-open, helps-small, helped-helps}

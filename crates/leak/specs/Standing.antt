@@ -1,10 +1,9 @@
 -- What the rows so far have brought about in a run, and what a leak needs of the searches.
 -- Assumes nothing.
 use mathlib.Core.Path.{_≡_}
-use mathlib.Core.Bool.{Bool, true, not}
+use mathlib.Core.Bool.{Bool, true}
 use mathlib.Core.List.{List, map}
 use Prim.Native.Nat.{ℕ, _+_, _-_, _≤_, _<_}
-use lib.Dec.{eqb}
 use lib.ListN.{length, getD}
 use Rattle.lanes.specs.Lanes.{laneOf}
 use Rattle.runs.specs.Model.{Model}
@@ -21,6 +20,7 @@ use Rattle.search.specs.Path.{wayAt}
 use Rattle.search.specs.Claims.{Modify, Begun}
 use Rattle.search.specs.declared.queue.Found.{Found}
 use Rattle.session_rows.specs.Writing.{Writing}
+use Rattle.user_results.specs.Found.{named}
 use Rattle.leak.specs.declared.Aim.{Aim}
 
 -- the rows were carried out from the start to s; the next number is s's; and the sessions that are said to stand open do
@@ -31,10 +31,6 @@ pub record Stands (m : Model) (start : State) (w : Writing) (s : State) : Type 0
   pub few : w .next ≤ length (start .sessions) + length (w .rows)
   pub sized : (length (w .number) ≡ 256) × (length (w .owner) ≡ 256)
   pub standing : (v j : ℕ) → v < 256 → getD (w .number) v 0 ≡ j + 1 → sessionAt s j ≡ opened (getD (w .owner) v 0) v
-
--- a session value for which a user is named
-unfoldable pub named : List ℕ → ℕ → Bool
-named by v = not (eqb (getD by v 0) 0)
 
 -- each user's search is there, and a user that is named for a value can have it
 pub record Ready (m : Model) (users : List Found) (by : List ℕ) : Type 0 where

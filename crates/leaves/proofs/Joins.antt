@@ -1,24 +1,26 @@
 -- Laws of comparisons by the values of a field. In order: the sides of a comparison; a row where it is asked for; the rows of the values that a comparison holds of,
--- one after another; fields of the lane's number, and operands with few values; lane by lane; the ways to compare.
+-- one after another; fields of the lane's number, and operands with few values; the number of an operand in a lane; operands that no lane changes; lane by lane; the ways to compare.
 use mathlib.Core.Path.{_≡_, refl, sym, ap, ap₂, _∙_}
 use mathlib.Core.Bool.{Bool, true, false, _&&_, _||_, and-true, and-false, or-false}
 use mathlib.Core.List.{List}
 use Prim.Native.Nat.{ℕ, _+_, _*_, _/_, _%_, _^_, _≤_, _<_}
 use native.Mathlib.Decide.{ℕ-discrete, decLt}
-use native.Mathlib.Nat.{zero-add, zero-mul, zero-div}
+use native.Mathlib.Nat.{zero-add, zero-mul, zero-div, div-eq-of-lt}
 use native.Mathlib.Omega.{arith}
 use borrow.Author.Tests.{lt-ltb, le-ltb, eq-eqb, ne-eqb}
 use lib.Dec.{ltb, eqb}
+use lib.Pow.{pow-mono, shl-exact, shl-lt}
 use lib.ListN.{length}
 use Rattle.lanes.specs.Lanes.{laneOf, Lanes}
 use Rattle.lanes.proofs.Laws.{lanes-as, lanes-own, lanes-or}
 use Rattle.formulas.specs.Parts.{comparedBy}
 use Rattle.planes.specs.Word.{numberIn, comparedIn}
+use Rattle.planes.specs.declared.operand.Operand.{Operand}
 use Rattle.planes.proofs.Numbers.{number-plain}
 use Rattle.bitsets.specs.Rows.{bitAt}
-use Rattle.leaves.specs.Side.{operandAt}
+use Rattle.sides.specs.Side.{operandAt}
 use Rattle.leaves.specs.Values.{Hot, sided, LaneField, Few, Way}
-use Rattle.leaves.specs.declared.side.Side.{Side}
+use Rattle.sides.specs.declared.Side.{Side}
 
 pub sided-second : (second : Bool) (op x m y n : ℕ) → second ≡ true → comparedBy op y n x m ≡ sided second op x m y n
 unfolding sided
@@ -82,11 +84,34 @@ module _ (x y : Side) (hot : List ℕ) (f : Few x y hot) (op i v : ℕ) where
   unfolding sided comparedIn
   few-second = sym (rw (number-field x (f .field) i v, number-other, size-field x (f .field) i v) refl)
 
--- operands that are both fields of the lane's number
-pub both-fields : (x y : Side) → LaneField x → LaneField y → (op i v : ℕ)
-    → comparedBy op (v / 2 ^ x .shift % 2 ^ x .bits) (x .size) (v / 2 ^ y .shift % 2 ^ y .bits) (y .size) ≡ comparedIn op (operandAt x i) (operandAt y i) v
+-- the number of an operand in a lane: its field, and above it what is left of one number
+module _ (o : Operand) (v : ℕ) where
+  pub number-wide : o .number < 256 → 8 ≤ o .bits → v / 2 ^ o .shift % 2 ^ o .bits ≡ numberIn o v
+  unfolding numberIn
+  number-wide b h =
+      let e : o .number / 2 ^ o .bits ≡ 0 = div-eq-of-lt (omega (arith, pow-mono {i = 8} {j = o .bits} h)) in
+      sym (ap (λ (q : ℕ). q * 2 ^ o .bits + v / 2 ^ o .shift % 2 ^ o .bits) e ∙ ap (λ (q : ℕ). q + v / 2 ^ o .shift % 2 ^ o .bits) (zero-mul (2 ^ o .bits)) ∙ zero-add (v / 2 ^ o .shift % 2 ^ o .bits))
+
+  module _ (h : ℕ) (l : h < 256) (b : o .bits < 8) where
+    shifted : h * 2 ^ o .bits % 2 ^ 64 ≡ h * 2 ^ o .bits
+    shifted = shl-exact {a = h} 8 (o .bits) 64 (omega arith) (omega arith)
+
+    pub shifted-few : h * 2 ^ o .bits % 2 ^ 64 < 65536
+    shifted-few = omega (arith, shifted, shl-lt {a = h} 8 (o .bits) (omega arith), pow-mono {i = 8 + o .bits} {j = 16} (omega arith))
+
+    pub number-narrow : h ≡ o .number / 2 ^ o .bits → h * 2 ^ o .bits % 2 ^ 64 + v / 2 ^ o .shift % 2 ^ o .bits ≡ numberIn o v
+    unfolding numberIn
+    number-narrow e = ap (λ (q : ℕ). q + v / 2 ^ o .shift % 2 ^ o .bits) (shifted ∙ ap (λ (q : ℕ). q * 2 ^ o .bits) e)
+
+-- what a comparison says of the numbers of its operands in a lane
+pub number-says : (op : ℕ) (x y : Operand) (v : ℕ) → comparedBy op (numberIn x v) (x .size) (numberIn y v) (y .size) ≡ comparedIn op x y v
 unfolding comparedIn
-both-fields x y f g op i v = sym (rw (number-field x f i v, number-field y g i v, size-field x f i v, size-field y g i v) refl)
+number-says op x y v = refl
+
+-- operands that no lane changes
+pub plain-operands : (op : ℕ) (x y : Operand) → x .bits ≡ 0 → y .bits ≡ 0 → (v : ℕ) → comparedBy op (x .number) (x .size) (y .number) (y .size) ≡ comparedIn op x y v
+unfolding comparedIn
+plain-operands op x y e f v = sym (rw (number-plain x v e, number-plain y v f) refl)
 
 -- lane v where it is asked for
 module _ (on : Bool) (v : ℕ) where
@@ -117,13 +142,10 @@ module _ (f : ℕ → Bool) (r : List ℕ) where
 -- the ways to compare
 module _ (x y : Side) (hot : List ℕ) where
   pub way-first : Few x y hot → Way 1 x y hot
-  way-first f = record { first = λ e. f; second = λ e. absurd (omega arith); both = λ e. absurd (omega arith) }
+  way-first f = record { first = λ e. f; second = λ e. absurd (omega arith) }
 
   pub way-second : Few y x hot → Way 2 x y hot
-  way-second f = record { first = λ e. absurd (omega arith); second = λ e. f; both = λ e. absurd (omega arith) }
-
-  pub way-both : LaneField x × LaneField y → Way 3 x y hot
-  way-both f = record { first = λ e. absurd (omega arith); second = λ e. absurd (omega arith); both = λ e. f }
+  way-second f = record { first = λ e. absurd (omega arith); second = λ e. f }
 
   pub way-none : Way 0 x y hot
-  way-none = record { first = λ e. absurd (omega arith); second = λ e. absurd (omega arith); both = λ e. absurd (omega arith) }
+  way-none = record { first = λ e. absurd (omega arith); second = λ e. absurd (omega arith) }

@@ -8,7 +8,7 @@ use native.Mathlib.Nat.{mod-lt, zero-mul, zero-add, one-mul}
 use native.Mathlib.Omega.{arith}
 use borrow.Author.Tests.{lt-ltb, le-ltb, le-leb, lt-leb, eq-eqb, ne-eqb}
 use lib.Dec.{eqb}
-use lib.Pow.{pow-pos, pow-add, shl-exact, shr-shr, mod-pow-add}
+use lib.Pow.{pow-pos, pow-add, shr-shr, mod-pow-add}
 use Rattle.lanes.specs.Lanes.{bitOf, laneOf, Lanes, someBelow}
 use Rattle.lanes.proofs.Laws.{some-none}
 use Rattle.planes.proofs.Numbers.{bit-out}
@@ -128,10 +128,6 @@ above-is n f x true h l = and-true (eqb f (x - n)) ∙ go (ℕ-discrete f (x - n
     go (yes e) = eq-eqb f (x - n) e ∙ sym (eq-eqb (n + f) x (omega arith))
     go (no e) = ne-eqb f (x - n) e ∙ sym (ne-eqb (n + f) x (λ d. e (omega arith)))
 above-is n f x false h l = and-false (eqb f (x - n)) ∙ sym (ne-eqb f x (λ e. omega arith))
-
--- one bit, from bit k on
-pub one-shl : (k : ℕ) → k < 8 → 1 * 2 ^ k % 2 ^ 64 ≡ 2 ^ k
-one-shl k h = shl-exact 1 k 64 (omega arith) (omega arith) ∙ one-mul (2 ^ k)
 
 -- the rows of the values of F, parted by one bit more
 hot-parted : (F G : ℕ → ℕ) (n m : ℕ) (P : ℕ → Bool) (t u : List ℕ) → Hot F n t → Rows (parted n n P (bitAt t)) u → m ≡ n + n

@@ -6,9 +6,10 @@ use mathlib.Core.List.{List}
 use Prim.Native.Nat.{ℕ, _+_, _-_, _/_, _%_, _^_, _≤_, _<_}
 use lib.Dec.{ltb, leb, eqb}
 use Rattle.formulas.specs.Parts.{comparedBy}
+use Rattle.planes.specs.Word.{comparedIn}
 use Rattle.bitsets.specs.Rows.{bitAt}
-use Rattle.leaves.specs.Side.{operandAt}
-use Rattle.leaves.specs.declared.side.Side.{Side}
+use Rattle.sides.specs.Side.{operandAt}
+use Rattle.sides.specs.declared.Side.{Side}
 
 -- row x has the lanes v where F v is x; each F v is below n
 pub record Hot (F : ℕ → ℕ) (n : ℕ) (t : List ℕ) : Type 0 where
@@ -35,8 +36,11 @@ pub record Few (x y : Side) (hot : List ℕ) : Type 0 where
   pub plain : (i : ℕ) → operandAt y i .bits ≡ 0
   pub rows : Hot (λ v. v / 2 ^ x .shift % 2 ^ x .bits) (2 ^ x .bits) hot
 
--- way 1: the first operand has few values; way 2: the second has; way 3: both are fields of the lane's number
+-- way 1: the first operand has few values; way 2: the second has
 pub record Way (way : ℕ) (x y : Side) (hot : List ℕ) : Type 0 where
   pub first : way ≡ 1 → Few x y hot
   pub second : way ≡ 2 → Few y x hot
-  pub both : way ≡ 3 → LaneField x × LaneField y
+
+-- the first n rows from base on say what a comparison of x and y says
+pub record Filled (op : ℕ) (x y : Side) (base n : ℕ) (t : List ℕ) : Type 0 where
+  pub each : (j v : ℕ) → j < n → v < 256 → bitAt t (base + j) v ≡ comparedIn op (operandAt x j) (operandAt y j) v

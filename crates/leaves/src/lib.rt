@@ -6,17 +6,16 @@ ghost use Rattle.policy.specs.Rules.{listsOf};
 ghost use Rattle.lanes.specs.Lanes.{Lanes};
 ghost use Rattle.planes.specs.Word.{comparedIn};
 ghost use Rattle.bitsets.specs.Rows.{bitAt, Rows, putFrom};
-ghost use Rattle.leaves.specs.Leaf.{leaf};
-ghost use Rattle.leaves.specs.Side.{operandAt, Filled};
-ghost use Rattle.leaves.specs.Values.{Way};
+ghost use Rattle.sides.specs.Leaf.{leaf};
+ghost use Rattle.sides.specs.Side.{operandAt};
+ghost use Rattle.leaves.specs.Values.{Way, Filled};
 
-mod side;
 mod values;
 
 use policy::Classes;
-use side::Side;
-use side::first_alike;
-use side::side_of;
+use sides::Side;
+use sides::first_alike;
+use sides::side_of;
 use values::compared;
 use values::prepare;
 

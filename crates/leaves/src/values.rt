@@ -1,19 +1,20 @@
-// Comparisons by the values of a field of the lane's number: no operator is named here.
+// Comparisons by the values of a field of the lane's number, or lane by lane. No operator is named here but those on sets.
 ghost use mathlib.Core.Path.{_≡_};
 ghost use mathlib.Core.Bool.{true, false, not, _&&_, _||_};
 ghost use Prim.Native.Nat.{ℕ, _+_, _*_, _/_, _%_, _^_, _≤_, _<_};
 ghost use lib.Dec.{eqb};
 ghost use lib.ListN.{length};
 ghost use Rattle.lanes.specs.Lanes.{bitOf, laneOf, Lanes};
-ghost use Rattle.formulas.specs.Parts.{comparedBy};
-ghost use Rattle.planes.specs.Word.{comparedIn};
+ghost use Rattle.planes.specs.Word.{numberIn, comparedIn};
 ghost use Rattle.bitsets.specs.Rows.{bitAt, Rows, put};
-ghost use Rattle.leaves.specs.Side.{operandAt};
+ghost use Rattle.sides.specs.Side.{operandAt};
 ghost use Rattle.leaves.specs.Values.{Hot, LaneField, parted, sided, Way};
-use super::side::Side;
-use super::side::operand_at;
-use super::side::part_of;
+use planes::operand::Operand;
+use planes::operand::high;
 use planes::wide::compare_all;
+use sides::Side;
+use sides::operand_at;
+use sides::part_of;
 
 // Bit k of the lanes' numbers.
 fn bit_row(k: usize) -> [u64; 4]
@@ -117,30 +118,7 @@ fn few(x: Side, y: Side) -> bool
     y.bits == 0
 }
 
-// Whether both are fields of the lane's number.
-fn both(x: Side, y: Side) -> bool
-    ensures { λ r. ⌜ (r ≡ true → LaneField x × LaneField y) ⌝ }
-{
-    if x.row {
-        return false;
-    }
-    if y.row {
-        return false;
-    }
-    if x.bits == 0 {
-        return false;
-    }
-    if y.bits == 0 {
-        return false;
-    }
-    if x.number != 0 {
-        return false;
-    }
-    y.number == 0
-}
-
-// How the operands are compared: 1 where the first has few values, 2 where the second has, and then their rows stand in `hot`; 3 where both are fields of
-// the lane's number; else 0.
+// How the operands are compared: 1 where the first has few values, 2 where the second has, and then their rows stand in `hot`; else 0.
 pub(super) fn prepare(hot: &mut [u64], x: Side, y: Side) -> u8
     requires { ⌜ length (now hot) ≡ 64 ⌝ }
     ensures { λ r. ⌜ Way r x y (now (hot .exit)) ⌝ }
@@ -154,7 +132,7 @@ pub(super) fn prepare(hot: &mut [u64], x: Side, y: Side) -> u8
         value_rows(hot, y.shift, y.bits);
         return 2;
     }
-    if both(x, y) { 3 } else { 0 }
+    0
 }
 
 // What a comparison says of a value x of the lanes' field and one number y, whose lists have m and n values. The field is the first operand or the second.
@@ -178,15 +156,16 @@ fn with_row(t: &[u64], a: usize, on: bool, r: [u64; 4]) -> [u64; 4]
     r
 }
 
-// Where a comparison holds of the lanes' field and one number: by what it says of each of the field's values.
-fn joined(hot: &[u64], count: usize, second: bool, op: u32, m: u8, y: u8, n: u8) -> [u64; 4]
-    requires { ⌜ 4 * count ≤ length (now hot) ⌝ }
-    ensures { λ r. ⌜ ((F : ℕ → ℕ) → Hot F count (now (hot .entry)) → Lanes (λ v. sided second op (F v) m y n) r) ⌝ }
+// Where a comparison holds of the field x of the lane's number and one number, whose list has n values: by what it says of each of the field's values.
+fn joined(hot: &[u64], x: Side, second: bool, op: u32, y: u8, n: u8) -> [u64; 4]
+    requires { ⌜ (x .bits ≤ 4) × (length (now hot) ≡ 64) × Hot (λ v. v / 2 ^ x .shift % 2 ^ x .bits) (2 ^ x .bits) (now hot) ⌝ }
+    ensures { λ r. ⌜ Lanes (λ v. sided second op (v / 2 ^ x .shift % 2 ^ x .bits) (x .size) y n) r ⌝ }
 {
+    let count = 1usize << x.bits;
     let mut r = lanes::none();
-    for x in 0..count {
-        let on = says(second, op, x as u64, m as u64, y as u64, n as u64);
-        let t = with_row(hot, x, on, r);
+    for k in 0..count {
+        let on = says(second, op, k as u64, x.size as u64, y as u64, n as u64);
+        let t = with_row(hot, k, on, r);
         r = t;
     }
     r
@@ -202,20 +181,69 @@ fn with_lane(r: [u64; 4], v: usize, on: bool) -> [u64; 4]
     r
 }
 
-// Where a comparison of two fields of the lane's number holds, lane by lane.
-fn lane_by_lane(op: u32, x: Side, y: Side) -> [u64; 4]
-    ensures { λ r. ⌜ Lanes (λ v. comparedBy op (v / 2 ^ x .shift % 2 ^ x .bits) (x .size) (v / 2 ^ y .shift % 2 ^ y .bits) (y .size)) r ⌝ }
+// The number of an operand in lane v.
+fn number_in(o: Operand, v: usize) -> u64
+    requires { ⌜ v < 256 ⌝ }
+    ensures { λ r. ⌜ r ≡ numberIn o v ⌝ }
 {
-    let m = x.size as u64;
-    let n = y.size as u64;
+    let part = part_of(v, o.shift, o.bits) as u64;
+    if 8 <= o.bits {
+        return part;
+    }
+    ((high(o.number, o.bits) as u64) << o.bits) + part
+}
+
+// Where a comparison of two operands holds, lane by lane.
+fn lane_by_lane(op: u32, x: Operand, y: Operand) -> [u64; 4]
+    ensures { λ r. ⌜ Lanes (comparedIn op x y) r ⌝ }
+{
     let mut r = lanes::none();
     for v in 0..256 {
-        let a = part_of(v, x.shift, x.bits) as u64;
-        let b = part_of(v, y.shift, y.bits) as u64;
-        let t = with_lane(r, v, formulas::node::compare(op, a, m, b, n));
+        let a = number_in(x, v);
+        let b = number_in(y, v);
+        let on = formulas::node::compare(op, a, x.size as u64, b, y.size as u64);
+        let t = with_lane(r, v, on);
         r = t;
     }
     r
+}
+
+// Where a comparison of two operands that are the same in all lanes holds: everywhere or nowhere.
+fn once(op: u32, x: Operand, y: Operand) -> [u64; 4]
+    requires { ⌜ (x .bits ≡ 0) × (y .bits ≡ 0) ⌝ }
+    ensures { λ r. ⌜ Lanes (comparedIn op x y) r ⌝ }
+{
+    let a = x.number as u64;
+    let b = y.number as u64;
+    if formulas::node::compare(op, a, x.size as u64, b, y.size as u64) {
+        return lanes::all();
+    }
+    lanes::none()
+}
+
+// Whether the operator is one on sets, which are compared member by member.
+fn on_sets(op: u32) -> bool
+    ensures { λ r. ⌜ (r ≡ true → (8 ≤ op) × (op ≤ 10)) ⌝ }
+{
+    if op < 8 {
+        return false;
+    }
+    op <= 10
+}
+
+// Where a comparison of two operands holds: once where no lane changes them, by members where they are sets, else lane by lane.
+fn otherwise(op: u32, x: Operand, y: Operand) -> [u64; 4]
+    ensures { λ r. ⌜ Lanes (comparedIn op x y) r ⌝ }
+{
+    if x.bits == 0 {
+        if y.bits == 0 {
+            return once(op, x, y);
+        }
+    }
+    if on_sets(op) {
+        return compare_all(op, x, y);
+    }
+    lane_by_lane(op, x, y)
 }
 
 // What a comparison of two operands says in row i.
@@ -226,13 +254,10 @@ pub(super) fn compared(hot: &[u64], way: u8, op: u32, x: Side, y: Side, i: usize
     let a = operand_at(x, i);
     let b = operand_at(y, i);
     if way == 1 {
-        return joined(hot, 1 << x.bits, false, op, x.size, b.number, b.size);
+        return joined(hot, x, false, op, b.number, b.size);
     }
     if way == 2 {
-        return joined(hot, 1 << y.bits, true, op, y.size, a.number, a.size);
+        return joined(hot, y, true, op, a.number, a.size);
     }
-    if way == 3 {
-        return lane_by_lane(op, x, y);
-    }
-    compare_all(op, a, b)
+    otherwise(op, a, b)
 }

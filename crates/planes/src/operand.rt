@@ -37,7 +37,7 @@ pub(super) fn bit(planes: &[u64], o: Operand, k: usize) -> u64
 }
 
 // x without its last k bits.
-fn high(x: u8, k: u8) -> u8
+pub fn high(x: u8, k: u8) -> u8
     ensures { λ r. ⌜ r ≡ x / 2 ^ k ⌝ }
 {
     if k < 8 { x >> k } else { 0 }

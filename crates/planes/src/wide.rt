@@ -1,7 +1,7 @@
-// Comparisons of operands in 256 lanes at once: four words.
+// Comparisons of sets in 256 lanes at once: four words.
 ghost use mathlib.Core.Path.{_≡_};
 ghost use mathlib.Core.Bool.{true};
-ghost use Prim.Native.Nat.{ℕ, _+_, _*_, _<_};
+ghost use Prim.Native.Nat.{ℕ, _+_, _*_, _≤_, _<_};
 ghost use Rattle.lanes.specs.Lanes.{Lanes};
 ghost use Rattle.planes.specs.Word.{Word, numberIn, comparedIn};
 use super::comparison::compare;
@@ -18,17 +18,18 @@ fn alike(o: Operand) -> bool
     o.shift as usize + o.bits as usize <= 6
 }
 
-// Where a comparison of operands holds in word w.
+// Where a comparison by an operator on sets holds in word w.
 fn compare_in(w: usize, op: u32, x: Operand, y: Operand) -> u64
-    requires { ⌜ w < 4 ⌝ }
+    requires { ⌜ (w < 4) × (8 ≤ op) × (op ≤ 10) ⌝ }
     ensures { λ r. ⌜ Word (comparedIn op x y) w r ⌝ }
 {
     let planes = planes_of(w);
     compare(&planes, op, x, y)
 }
 
-// Where a comparison of operands holds. Where both are the same in every word, one word is the answer in all.
+// Where a comparison by an operator on sets holds. Where both operands are the same in every word, one word is the answer in all.
 pub fn compare_all(op: u32, x: Operand, y: Operand) -> [u64; 4]
+    requires { ⌜ (8 ≤ op) × (op ≤ 10) ⌝ }
     ensures { λ r. ⌜ Lanes (comparedIn op x y) r ⌝ }
 {
     let first = compare_in(0, op, x, y);

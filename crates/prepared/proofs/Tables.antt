@@ -15,7 +15,7 @@ use Rattle.policy.specs.Nodes.{opOf, firstOf, secondOf, holderOf}
 use Rattle.bitsets.specs.Rows.{bitAt}
 use Rattle.dependence.specs.Answers.{answer, leafOf}
 use Rattle.dependence.proofs.Depending.{depends-operand, depends-leaf, depends-same}
-use Rattle.leaves.specs.Leaf.{two, leaf}
+use Rattle.sides.specs.Leaf.{two, leaf}
 use Rattle.prepared.specs.Prepared.{tableAt, holders, laneFor, rowFor, rowsFor, Prepared}
 use Rattle.prepared.specs.declared.Plan.{Plan}
 use Rattle.prepared.proofs.Parts.{valueFor}

@@ -19,7 +19,7 @@ use Rattle.bitsets.specs.Rows.{bitAt}
 use Rattle.bitsets.specs.Steps.{ran, Fits}
 use Rattle.dependence.specs.Answers.{holdersOf, answer}
 use Rattle.dependence.specs.Depends.{Depends}
-use Rattle.leaves.specs.Leaf.{leaf}
+use Rattle.sides.specs.Leaf.{leaf}
 use Rattle.prepared.specs.Level.{nodeStep, sameAs, Listed}
 use Rattle.prepared.specs.declared.Plan.{Plan}
 

@@ -16,7 +16,7 @@ use Rattle.dependence.specs.Answers.{answer, leafOf}
 use Rattle.dependence.specs.Depends.{Depends}
 use Rattle.dependence.proofs.Depending.{depends-first, depends-second}
 use Rattle.dependence.proofs.Operands.{leaf-two}
-use Rattle.leaves.specs.Leaf.{two, leaf}
+use Rattle.sides.specs.Leaf.{two, leaf}
 use Rattle.prepared.specs.Level.{Start}
 use Rattle.prepared.specs.Prepared.{tableAt, holders, laneFor, rowFor, rowsFor}
 use Rattle.prepared.proofs.Level.{level-right, level-low, level-high}

@@ -15,7 +15,7 @@ use Rattle.bitsets.specs.Rows.{bitAt, Rows, put}
 use Rattle.bitsets.proofs.Rows.{put-same}
 use Rattle.dependence.specs.Depends.{Depends}
 use Rattle.dependence.proofs.Depending.{depends-own}
-use Rattle.leaves.specs.Leaf.{leaf}
+use Rattle.sides.specs.Leaf.{leaf}
 use Rattle.prepared.specs.Prepared.{roomOf, laneFor, rowFor, Runs, Prepared}
 use Rattle.prepared.specs.declared.Plan.{Plan}
 use Rattle.prepared.proofs.Lists.{listed-few}

@@ -17,8 +17,8 @@ use Rattle.policy.specs.File.{classFormat, listsFormat, policyFormat}
 use Rattle.policy.specs.Rules.{listsOf, valuesOf, sessionsOf, formulasOf, policyOf}
 use Rattle.policy.specs.declared.Rules.{Rules}
 use Rattle.policy.proofs.Laws.{attrs-length}
-use Rattle.reader.specs.Parts.{headOf}
-use Rattle.reader.specs.declared.Counts.{Counts}
+use Rattle.reader_head.specs.Parts.{headOf}
+use Rattle.reader_head.specs.declared.Counts.{Counts}
 
 -- every value that the format reads is such
 record Only {A : Type 0} (f : Format A) (P : A → Type 0) : Type 0 where

@@ -1,3 +1,2 @@
-pub mod Reached  -- rows that were read so far
 pub mod Value  -- a value that was read so far
 pub mod Counted  -- lists that were read are as long as the head says

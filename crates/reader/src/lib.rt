@@ -8,54 +8,18 @@ ghost use Rattle.policy.specs.File.{policyFormat};
 ghost use Rattle.policy.specs.Rules.{policyOf, rulesBeside};
 
 mod formulas;
-mod head;
-mod lists;
 mod values;
 
 use format::Cursor;
 use formulas::read_formulas;
-use head::read_counts;
-use lists::read_classes;
-use policy::Class;
-use policy::Classes;
 use policy::Rules;
 use policy::Sessions;
 use policy::Values;
 use policy::no_rules;
+use reader_head::head::read_counts;
+use reader_head::lists::read_classes;
 use values::read_sessions;
 use values::read_values;
-
-// The head's counts as they were read; each within its range, also where a number was given.
-pub struct Counts {
-    pub at: Cursor,
-    pub user: u8,
-    pub session: u8,
-    pub item: u8,
-    pub users: u8,
-    pub sessions: u8,
-    pub items: u8,
-    pub permissions: u8,
-}
-
-// An attribute as it was read.
-pub struct Attribute {
-    pub at: Cursor,
-    pub kind: u8,
-    pub size: u8,
-    pub list: u8,
-}
-
-// The attributes of a class as they were read; none where a number was given.
-pub struct ClassRead {
-    pub at: Cursor,
-    pub class: Class,
-}
-
-// The attributes of the three classes as they were read.
-pub struct ClassesRead {
-    pub at: Cursor,
-    pub classes: Classes,
-}
 
 // Holders' values as they were read.
 pub struct ValuesRead {

@@ -1,7 +1,7 @@
 -- Laws of the tables of comparisons. In order: a list filled in place by place; how many values are told apart; how many rows a table has; where tables
 -- begin; one table more.
 use mathlib.Core.Path.{_≡_, refl, sym, ap, ap₂, _∙_, subst}
-use mathlib.Core.Bool.{Bool, true, false, _&&_, _||_, true≢false}
+use mathlib.Core.Bool.{Bool, true, false, _&&_, _||_, cond}
 use mathlib.Core.List.{List}
 use Prim.Native.Nat.{ℕ, _+_, _*_, _^_, _%_, _≤_, _<_, min}
 use native.Mathlib.Nat.{add-mul, mul-le-mul-right, mul-le-mul, min-eq-left, min-eq-right}
@@ -15,7 +15,7 @@ use Rattle.policy.specs.Policy.{Lists, width}
 use Rattle.policy.specs.Nodes.{opOf, ofHolder}
 use Rattle.bitsets.specs.Rows.{bitAt, Rows, putFrom}
 use Rattle.bitsets.proofs.Rows.{putFrom-before, putFrom-inside}
-use Rattle.leaves.specs.Leaf.{leaf}
+use Rattle.sides.specs.Leaf.{leaf}
 use Rattle.prepared.specs.Prepared.{tableAt, roomOf, laneFor, rowFor, rowsFor}
 use Rattle.tables.specs.Tables.{Table, Tables}
 
@@ -48,31 +48,17 @@ pub shifted : (w : ℕ) → w < 8 → ((1 * 2 ^ w) % 2 ^ 64 ≡ 2 ^ w) × (0 < 2
 shifted w l = (shl-exact {a = 1} 1 w 64 (omega arith) (omega arith) ∙ omega arith, pow-pos w, pow-mono {j = 8} (omega arith))
 
 module _ (c : Lists) (L R O : ℕ) where
-  pub rows-both : (lanes rows outer : Bool) → lanes && rows ≡ true → rowsFor c L R O lanes rows outer ≡ roomOf c R
+  -- as many rows as there are values of the row holder, of the outer holder, or one
+  pub rows-are : (lanes rows outer : Bool) (n m r : ℕ) → r ≡ cond (lanes && rows) n (cond (outer && (lanes || rows)) m 1) → n ≡ roomOf c R → m ≡ roomOf c O
+      → r ≡ rowsFor c L R O lanes rows outer
   unfolding rowsFor rowFor
-  rows-both true true outer e = refl
-  rows-both true false outer e = absurd (true≢false (sym e))
-  rows-both false rows outer e = absurd (true≢false (sym e))
-
-  pub rows-outer : (lanes rows outer : Bool) → lanes && rows ≡ false → outer && (lanes || rows) ≡ true
-      → rowsFor c L R O lanes rows outer ≡ roomOf c O
-  unfolding rowsFor rowFor
-  rows-outer true true outer e d = absurd (true≢false e)
-  rows-outer true false true e d = refl
-  rows-outer false true true e d = refl
-  rows-outer false false true e d = absurd (true≢false (sym d))
-  rows-outer true false false e d = absurd (true≢false (sym d))
-  rows-outer false rows false e d = absurd (true≢false (sym d))
-
-  pub rows-one : (lanes rows outer : Bool) → lanes && rows ≡ false → outer && (lanes || rows) ≡ false
-      → rowsFor c L R O lanes rows outer ≡ 1
-  unfolding rowsFor rowFor
-  rows-one true true outer e d = absurd (true≢false e)
-  rows-one true false true e d = absurd (true≢false d)
-  rows-one false true true e d = absurd (true≢false d)
-  rows-one false false outer e d = refl
-  rows-one true false false e d = refl
-  rows-one false true false e d = refl
+  rows-are true true outer n m r e a b = e ∙ a
+  rows-are true false true n m r e a b = e ∙ b
+  rows-are true false false n m r e a b = e
+  rows-are false true true n m r e a b = e ∙ b
+  rows-are false true false n m r e a b = e
+  rows-are false false true n m r e a b = e
+  rows-are false false false n m r e a b = e
 
   pub rows-few : (room : ℕ) → 0 < room → roomOf c R ≤ room → roomOf c O ≤ room → (lanes rows outer : Bool)
       → rowsFor c L R O lanes rows outer ≤ room

@@ -9,7 +9,7 @@ use lib.ListN.{getD}
 use Rattle.policy.specs.Policy.{Lists}
 use Rattle.policy.specs.Nodes.{opOf}
 use Rattle.bitsets.specs.Rows.{bitAt}
-use Rattle.leaves.specs.Leaf.{leaf}
+use Rattle.sides.specs.Leaf.{leaf}
 use Rattle.prepared.specs.Prepared.{tableAt, laneFor, rowFor, rowsFor}
 
 -- the table of one node, which depends on the holders that the three flags tell of, begins at row base; the rows before it stay. A node that joins

@@ -1,11 +1,12 @@
 // The tables of a formula's comparisons.
 ghost use mathlib.Core.Path.{_≡_};
+ghost use mathlib.Core.Bool.{_&&_, _||_, cond};
 ghost use Prim.Native.Nat.{ℕ, _+_, _*_, _≤_, _<_};
 ghost use lib.ListN.{length, getD};
-ghost use Rattle.policy.specs.Policy.{Lists, width};
+ghost use Rattle.policy.specs.Policy.{width};
 ghost use Rattle.policy.specs.Nodes.{ofHolder};
 ghost use Rattle.policy.specs.Rules.{listsOf};
-ghost use Rattle.prepared.specs.Prepared.{tableAt, roomOf, laneFor, rowFor, rowsFor};
+ghost use Rattle.prepared.specs.Prepared.{tableAt, roomOf, laneFor, rowFor};
 ghost use Rattle.tables.specs.Tables.{Table, Tables};
 use leaves::fill;
 use planes::class_of;
@@ -64,7 +65,7 @@ fn row_for(lane: u8, row: u8, outer: u8, onlane: bool, onrow: bool) -> u8
 
 // How many rows it has, by how many values of the row holder and of the outer holder are told apart.
 fn rows_for(rows: usize, outers: usize, onlane: bool, onrow: bool, onouter: bool) -> usize
-    ensures { λ r. ⌜ ((c : Lists) (L R O : ℕ) → rows ≡ roomOf c R → outers ≡ roomOf c O → r ≡ rowsFor c L R O onlane onrow onouter) ⌝ }
+    ensures { λ r. ⌜ r ≡ cond (onlane && onrow) rows (cond (onouter && (onlane || onrow)) outers 1) ⌝ }
 {
     if onlane & onrow {
         return rows;

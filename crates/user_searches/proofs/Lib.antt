@@ -1,3 +1,1 @@
-pub mod Laws  -- what the users' searches find together, one more at a time
-pub mod Starts  -- starting sessions, one more at a time
-pub mod UsersReach  -- the users' searches are what their sessions can have
+pub mod Laws  -- what a loop over the users fills

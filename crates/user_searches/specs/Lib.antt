@@ -1,1 +1,1 @@
-pub mod Found  -- what the searches of all users find together
+pub mod Opened  -- the session values that each user may open a session with

@@ -1,23 +1,25 @@
-// The searches of all users' sessions, and what they say together.
+// The searches of all users' sessions.
 ghost use mathlib.Core.Path.{_≡_};
-ghost use mathlib.Core.Bool.{_&&_, _||_, cond};
-ghost use Prim.Native.Nat.{ℕ, _+_, _≤_, _<_};
-ghost use lib.Dec.{ltb, eqb};
-ghost use Rattle.bits.specs.Packed.{tab};
+ghost use mathlib.Core.Bool.{cond};
+ghost use mathlib.Core.Logic.{_⊎_};
+ghost use Prim.Native.Nat.{_≤_, _<_};
+ghost use lib.Dec.{ltb};
+ghost use lib.ListN.{getD};
 ghost use Rattle.lanes.specs.Lanes.{Lanes};
-ghost use Rattle.policy.specs.Rules.{policyOf, sessionsOf};
+ghost use Rattle.policy.specs.Rules.{policyOf};
 ghost use Rattle.allowed.specs.Allowed.{modelOf};
-ghost use Rattle.allowed.specs.Asked.{OpenPrepared, ChangePrepared};
-ghost use Rattle.allowed.specs.Basis.{BasisOf, modelBy, InLists};
-ghost use Rattle.allowed.specs.Scratch.{Scratch};
+ghost use Rattle.allowed_rows.specs.Asked.{OpenPrepared, ChangePrepared};
+ghost use Rattle.allowed_rows.specs.Basis.{BasisOf, modelBy, InLists};
+ghost use Rattle.allowed_rows.specs.Scratch.{Scratch};
 ghost use Rattle.search.specs.Queue.{nothing};
 ghost use Rattle.search.specs.Sessions.{sessionsFound};
-ghost use Rattle.user_searches.specs.Found.{opensIn, Opened, UsersFound, userFound, anyHas, Names, nameAfter, foundPairs, allFound};
-use allowed::Basis;
-use allowed::rows::opened_with;
-use allowed::rows::prepare;
+ghost use Rattle.user_results.specs.Found.{UsersFound};
+ghost use Rattle.user_searches.specs.Opened.{opensIn, Opened};
+use allowed_rows::Basis;
+use allowed_rows::opened_with;
+use allowed_rows::prepare;
 use policy::Rules;
-use policy::Sessions;
+use policy::Values;
 use policy::shape::byte_at;
 use prepared::Plan;
 use search::queue::Found;
@@ -66,7 +68,25 @@ fn search_user(
     user_values(basis, nodes, area, steps, plan, opened, u)
 }
 
-// The search of each user.
+// The first user with the value of user u: u itself where there is none before it, or no user u.
+fn first_with(users: Values, u: usize) -> usize
+    ensures { λ r. ⌜ r ≤ u ⌝ }
+    ensures { λ r. ⌜ (r ≡ u) ⊎ ((u < users .count) × (getD (users .values) r 0 ≡ getD (users .values) u 0)) ⌝ }
+{
+    if users.count as usize <= u {
+        return u;
+    }
+    let values = users.values;
+    let x = byte_at(&values, u);
+    for k in 0..u {
+        if byte_at(&values, k) == x {
+            return k;
+        }
+    }
+    u
+}
+
+// The search of each user. Users with the same value have the same search.
 fn search_each(
     basis: Basis,
     nodes: &[u32],
@@ -83,7 +103,12 @@ fn search_each(
     let none = nothing();
     let mut users = [none; 16];
     for u in 0..16 {
-        let q = search_user(basis, nodes, area, steps, plan, opened[u], u as u8);
+        let w = first_with(basis.users, u);
+        let q = if w < u {
+            users[w]
+        } else {
+            search_user(basis, nodes, area, steps, plan, opened[u], u as u8)
+        };
         users[u] = q;
     }
     users
@@ -99,93 +124,4 @@ pub fn search_users(rules: Rules, basis: Basis, area: &mut [u64], steps: &mut [u
     let opened = open_each(basis, &rules.nodes, area, steps, open);
     let change = prepare(basis, &rules.nodes, 1, 2, 1, 0, area, steps);
     search_each(basis, &rules.nodes, area, steps, change, opened)
-}
-
-// The session values that some user's session can have.
-pub fn helpers(users: [Found; 16]) -> [u64; 4]
-    ensures { λ r. ⌜ Lanes (anyHas users) r ⌝ }
-{
-    let mut all = lanes::none();
-    for u in 0..16 {
-        let q = users[u];
-        let seen = q.seen;
-        let t = lanes::or(all, seen);
-        all = t;
-    }
-    all
-}
-
-// Who is named for a value: the user u where it can have the value and none is named yet, or u is asked about.
-fn name_one(was: u8, has: bool, u: u8, asked: u8) -> u8
-    requires { ⌜ u < 255 ⌝ }
-    ensures { λ r. ⌜ r ≡ cond (has && (eqb was 0 || eqb u asked)) (u + 1) was ⌝ }
-{
-    if !has {
-        return was;
-    }
-    if was == 0 {
-        return u + 1;
-    }
-    if u == asked { u + 1 } else { was }
-}
-
-// The user u is named for each value among `seen` for which none is named yet, or where u is asked about.
-fn name_user(by: [u8; 256], seen: [u64; 4], u: u8, asked: u8) -> [u8; 256]
-    requires { ⌜ u < 255 ⌝ }
-    ensures { λ r. ⌜ r ≡ tab (nameAfter by seen u asked) 0 256 ⌝ }
-{
-    let mut r = by;
-    for v in 0..256 {
-        let t = name_one(r[v], lanes::has(seen, v), u, asked);
-        r[v] = t;
-    }
-    r
-}
-
-// For each session value that some user's session can have the number plus 1 of such a user: the one that is asked about, where it can.
-pub fn name_users(users: [Found; 16], asked: u8) -> [u8; 256]
-    ensures { λ r. ⌜ Names users r ⌝ }
-{
-    let mut by = [0u8; 256];
-    for u in 0..16 {
-        let q = users[u];
-        let seen = q.seen;
-        let t = name_user(by, seen, u as u8, asked);
-        by = t;
-    }
-    by
-}
-
-// How many pairs of user and session value were found.
-pub fn count_pairs(users: [Found; 16]) -> usize
-    requires { ⌜ ((u : ℕ) → u < 16 → userFound users u .len ≤ 256) ⌝ }
-    ensures { λ r. ⌜ r ≡ foundPairs users 16 ⌝ }
-{
-    let mut n: usize = 0;
-    for u in 0..16 {
-        let q = users[u];
-        let found = q.len;
-        n += found;
-    }
-    n
-}
-
-// Whether every starting session could have been brought about by its user.
-pub fn all_brought(users: [Found; 16], starting: Sessions) -> bool
-    ensures { λ r. ⌜ r ≡ allFound users (sessionsOf starting) ⌝ }
-{
-    let owners = starting.users;
-    let values = starting.values;
-    for k in 0..starting.count as usize {
-        let u = byte_at(&owners, k) as usize;
-        if 16 <= u {
-            return false;
-        }
-        let q = users[u];
-        let seen = q.seen;
-        if !lanes::has(seen, byte_at(&values, k) as usize) {
-            return false;
-        }
-    }
-    true
 }

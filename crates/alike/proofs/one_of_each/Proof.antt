@@ -4,7 +4,7 @@ use mathlib.Core.List.{List}
 use Rattle.bits.specs.Packed.{tab}
 use Rattle.policy.specs.Policy.{Attr}
 use Rattle.policy.specs.Rules.{listsOf}
-use Rattle.formulas.specs.Value.{shiftIn, bitsIn}
+use Rattle.alike.specs.Fields.{shiftIn, bitsIn}
 use Rattle.alike.proofs.Same.{one-by-mask}
 use borrow.Author.Needs.{needs}
 use Rattle.alike.proofs.one_of_each.Statement.{statement}

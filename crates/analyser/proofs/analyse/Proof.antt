@@ -8,10 +8,10 @@ use Rattle.policy.specs.Rules.{policyOf}
 use Rattle.rules.specs.Answers.{reading, rules}
 use Rattle.rules.proofs.Laws.{was-accepted, was-refused}
 use Rattle.lists.specs.Sound.{Sound}
-use Rattle.allowed.specs.Basis.{BasisOf}
-use Rattle.allowed.specs.Scratch.{Scratch}
-use Rattle.allowed.specs.declared.Basis.{Basis}
-use Rattle.allowed.proofs.ScratchLaws.{scratch-wide, scratch-any}
+use Rattle.allowed_rows.specs.Basis.{BasisOf}
+use Rattle.allowed_rows.specs.Scratch.{Scratch}
+use Rattle.allowed_rows.specs.declared.Basis.{Basis}
+use Rattle.allowed_rows.proofs.ScratchLaws.{scratch-wide, scratch-any}
 use Rattle.steps.proofs.Files.{file-sound}
 use Rattle.analyser.proofs.Decides.{refused-file-is-told}
 use Rattle.analyser.proofs.Refusals.{gives-number}

@@ -2,12 +2,12 @@
 -- and leak by the searches, which are the closures of what runs can do.
 use mathlib.Core.Path.{refl, _∙_, subst}
 use native.Mathlib.Omega.{arith}
-use Rattle.allowed.proofs.ScratchLaws.{scratch-kept}
+use Rattle.allowed_rows.proofs.ScratchLaws.{scratch-kept}
 use Rattle.live.proofs.Laws.{held, denied}
 use Rattle.steps.proofs.Files.{file-sound}
 use Rattle.replay.specs.declared.question.Question.{Question}
-use Rattle.user_searches.proofs.Laws.{users-few}
-use Rattle.analyser.specs.Decide.{DecidedBy}
+use Rattle.user_results.proofs.Laws.{users-few}
+use Rattle.decision.specs.Decide.{DecidedBy}
 use Rattle.analyser.proofs.Decides.{decided-means, refused-sessions-is-told, refused-question-is-told, refused-room-is-told, rowsFor-needed, permission-there}
 use Rattle.analyser.proofs.Refusals.{gives-number}
 use borrow.Author.Needs.{needs}
@@ -102,6 +102,9 @@ decide-requires c κs =
       (o .ensures, (scratch-kept S refl (u .search-users .kept .1 .1 .0), permission-there (s .args .rules) (o .result) _ _ (o .ensures) asked (c .before .before .before .of .ensures))),
     )
 
+answer-of-requires : tie.Need-answer-of-requires
+answer-of-requires c κs = search needs
+
 same-length-4 : tie.Need-same-length-4
 same-length-4 c = search needs
 
@@ -110,7 +113,7 @@ same-length-5 c = search needs
 
 returns-4 : tie.Need-returns-4
 returns-4 c =
-    let d = c .before .before .before .before .before in
+    let d = c .before .before .before .before .before .before in
     let n = d .before .before .before .before .before .before in
     let k = n .before .before in
     let t = k .before .before in
@@ -120,10 +123,11 @@ returns-4 c =
     let brought = held (t .starts-brought .ensures) (k .before .if1 .left) in
     let asked = held (k .asks .ensures) (n .before .if2 .left) in
     let need = n .rows-needed .ensures ∙ rowsFor-needed (a .rules) (file-sound _ _ (s .pre .0)) in
-    decided-means (a .file .now) (a .question .now) (a .rows .now) _ (a .rules) _ _ (s .pre .0) (u .search-users .ensures) brought asked
+    decided-means (a .file .now) (a .question .now) (a .rows .now) _ (a .rules) _ _ _ (s .pre .0) (u .search-users .ensures) brought asked
     (omega (arith, need, d .before .before .before .before .before .if3 .left))
     (subst (λ (x : Question). DecidedBy (a .rules) (u .search-users .result) x (a .rows .now) (d .decide .last .1 .1 .1 .0) (d .decide .result))
     (d .before .before .before .before .of .ensures) (d .decide .ensures))
+    (c .answer-of .ensures)
 
 pub answer-in-spec : {M : Type 1} → statement M
 answer-in-spec =
@@ -147,6 +151,7 @@ answer-in-spec =
     of-requires
     slice-aggregate-decide
     decide-requires
+    answer-of-requires
     same-length-4
     same-length-5
     returns-4)

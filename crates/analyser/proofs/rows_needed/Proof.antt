@@ -6,7 +6,7 @@ use Rattle.analyser.proofs.Widths.{rows-session, rows-item, rows-are}
 use native.Mathlib.Nat.{mul-le-mul}
 use Rattle.policy.specs.Policy.{width}
 use Rattle.policy.specs.Rules.{attrsOf}
-use Rattle.analyser.specs.Decide.{rowsFor}
+use Rattle.analyser.specs.Checks.{rowsFor}
 use borrow.Author.Needs.{needs}
 use Rattle.analyser.proofs.rows_needed.Statement.{statement}
 use Rattle.analyser.proofs.rows_needed.Tie as tie

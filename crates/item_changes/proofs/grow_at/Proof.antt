@@ -1,7 +1,7 @@
 -- `item_changes::grow_at` meets its contract.
 use mathlib.Core.Path.{ap}
 use mathlib.Core.Bool.{true, false, not}
-use Rattle.allowed.specs.Basis.{modelBy}
+use Rattle.allowed_rows.specs.Basis.{modelBy}
 use Rattle.search.specs.Lent.{foundOf}
 use Rattle.search.proofs.Laws.{cond-on, cond-off, more-at, more-end}
 use borrow.Author.Needs.{needs}

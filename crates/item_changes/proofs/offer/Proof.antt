@@ -4,7 +4,7 @@ use mathlib.Core.Bool.{Bool, true, false, not, _&&_}
 use Prim.Native.Nat.{_+_, _-_}
 use borrow.Author.Tests.{not-true, not-false}
 use Rattle.lanes.specs.Lanes.{someBelow}
-use Rattle.allowed.specs.Basis.{modelBy}
+use Rattle.allowed_rows.specs.Basis.{modelBy}
 use Rattle.search.specs.Queue.{unmet}
 use Rattle.search.specs.Lent.{foundOf}
 use Rattle.search.proofs.Laws.{cond-on, cond-off, unmet-some, unmet-lanes, spread-modifies}

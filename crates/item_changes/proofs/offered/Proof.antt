@@ -4,8 +4,8 @@ use Prim.Native.Nat.{_-_, _≤_}
 use native.Mathlib.Omega.{arith}
 use lib.ListN.{length, getD}
 use Rattle.lanes.specs.Lanes.{laneOf}
-use Rattle.allowed.specs.Asked.{ModifyReady}
-use Rattle.allowed.specs.Basis.{modelBy}
+use Rattle.allowed_rows.specs.Asked.{ModifyReady}
+use Rattle.allowed_rows.specs.Basis.{modelBy}
 use Rattle.search.specs.Lent.{foundOf, Long}
 use Rattle.search.specs.Items.{offeredBy, offered}
 use Rattle.search.specs.declared.queue.Found.{Found}

@@ -8,9 +8,9 @@ use lib.ListN.{length, getD}
 use Rattle.lanes.specs.Lanes.{laneOf}
 use Rattle.policy.specs.Rules.{valuesOf}
 use Rattle.policy.proofs.Laws.{values-length}
-use Rattle.allowed.specs.Basis.{modelBy}
+use Rattle.allowed_rows.specs.Basis.{modelBy}
 use Rattle.allowed.proofs.Laws.{value-at}
-use Rattle.allowed.proofs.ScratchLaws.{scratch-kept}
+use Rattle.allowed_rows.proofs.ScratchLaws.{scratch-kept}
 use Rattle.search.specs.Queue.{nothing}
 use Rattle.search.specs.Items.{asked, growItems, startRoots, readyOf}
 use Rattle.search.specs.declared.queue.Found.{Found}

@@ -2,7 +2,7 @@
 use mathlib.Core.Path.{ap, _∙_}
 use Prim.Native.Nat.{_+_}
 use Rattle.lanes.specs.Lanes.{laneOf}
-use Rattle.allowed.specs.Basis.{modelBy}
+use Rattle.allowed_rows.specs.Basis.{modelBy}
 use Rattle.search.specs.Queue.{pushed}
 use Rattle.search.specs.Items.{growItems}
 use Rattle.search.specs.declared.queue.Found.{Found}

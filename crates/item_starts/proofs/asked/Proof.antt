@@ -8,8 +8,8 @@ use lib.Dec.{ltb}
 use lib.ListN.{length}
 use Rattle.lanes.specs.Lanes.{laneOf}
 use Rattle.lanes.proofs.Laws.{lowest-le, Rest, rest-all, rest-before, rest-on, rest-next, rest-between}
-use Rattle.allowed.specs.Asked.{MakeReady}
-use Rattle.allowed.specs.Basis.{modelBy}
+use Rattle.allowed_rows.specs.Asked.{MakeReady}
+use Rattle.allowed_rows.specs.Basis.{modelBy}
 use Rattle.search.specs.Queue.{unmet}
 use Rattle.search.specs.Lent.{foundOf, Long}
 use Rattle.search.specs.Items.{lastMaker, asked}

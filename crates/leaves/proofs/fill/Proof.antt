@@ -2,7 +2,7 @@
 use native.Mathlib.Omega.{arith}
 use Rattle.policy.specs.Nodes.{opOf, firstOf, secondOf}
 use Rattle.policy.specs.Rules.{listsOf}
-use Rattle.leaves.proofs.Sides.{leaf-is}
+use Rattle.sides.proofs.Sides.{leaf-is}
 use Rattle.leaves.proofs.Filled.{rows-as}
 use borrow.Author.Needs.{needs}
 use Rattle.leaves.proofs.fill.Statement.{statement}

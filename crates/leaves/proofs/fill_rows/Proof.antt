@@ -6,7 +6,7 @@ use native.Mathlib.Omega.{arith}
 use lib.ListN.{length}
 use Rattle.planes.specs.Word.{comparedIn}
 use Rattle.bitsets.specs.Rows.{bitAt, Rows, putFrom}
-use Rattle.leaves.specs.Side.{operandAt}
+use Rattle.sides.specs.Side.{operandAt}
 use Rattle.leaves.specs.Values.{Way}
 use Rattle.leaves.proofs.Filled.{from-rows, put-lanes, rows-start, rows-more}
 use borrow.Author.Needs.{needs}

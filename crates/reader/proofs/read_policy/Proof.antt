@@ -10,7 +10,7 @@ use Rattle.policy.specs.File.{policyFormat}
 use Rattle.policy.specs.Rules.{listsOf, policyOf}
 use Rattle.policy.specs.declared.Rules.{Rules}
 use Rattle.policy.proofs.Laws.{beside-good, beside-bad}
-use Rattle.reader.specs.Parts.{headOf}
+use Rattle.reader_head.specs.Parts.{headOf}
 use Rattle.reader.proofs.Counted.{underHead, read-counted}
 use Rattle.reader.proofs.read_policy.Statement.{statement}
 use Rattle.reader.proofs.read_policy.Tie as tie

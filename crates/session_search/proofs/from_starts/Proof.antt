@@ -2,7 +2,7 @@
 use mathlib.Core.Path.{ap, _∙_}
 use Rattle.lanes.specs.Lanes.{laneOf}
 use Rattle.runs.specs.Edge.{changesTo}
-use Rattle.allowed.specs.Basis.{modelBy}
+use Rattle.allowed_rows.specs.Basis.{modelBy}
 use Rattle.search.specs.Queue.{spread}
 use Rattle.search.specs.Sessions.{growTo}
 use Rattle.search.specs.declared.queue.Found.{Found}

@@ -4,8 +4,8 @@ use Prim.Native.Nat.{_-_, _≤_}
 use native.Mathlib.Omega.{arith}
 use lib.ListN.{length}
 use Rattle.runs.specs.Edge.{changesTo}
-use Rattle.allowed.specs.Asked.{ChangeReady}
-use Rattle.allowed.specs.Basis.{modelBy, InLists}
+use Rattle.allowed_rows.specs.Asked.{ChangeReady}
+use Rattle.allowed_rows.specs.Basis.{modelBy, InLists}
 use Rattle.search.specs.Lent.{foundOf, Long}
 use Rattle.search.specs.Sessions.{grownAt, growTo}
 use Rattle.search.specs.declared.queue.Found.{Found}

@@ -3,7 +3,7 @@ use mathlib.Core.Path.{ap, _∙_}
 use mathlib.Core.Bool.{true, false, not}
 use Prim.Native.Nat.{_+_}
 use lib.ListN.{getD}
-use Rattle.allowed.specs.Basis.{modelBy}
+use Rattle.allowed_rows.specs.Basis.{modelBy}
 use Rattle.search.specs.Lent.{foundOf}
 use Rattle.search.proofs.Laws.{cond-on, cond-off, more-at, more-end, unmet-lanes, spread-changes}
 use borrow.Author.Needs.{needs}

@@ -7,7 +7,7 @@ use borrow.Author.Tests.{eq-eqb, ne-eqb}
 use lib.Dec.{eqb}
 use Rattle.lanes.specs.Lanes.{laneOf, Lanes}
 use Rattle.runs.specs.Edge.{changesTo}
-use Rattle.allowed.specs.Basis.{modelBy}
+use Rattle.allowed_rows.specs.Basis.{modelBy}
 use Rattle.search.specs.Queue.{nothing, pushed, unmet, spread}
 use Rattle.search.specs.Sessions.{growTo}
 use Rattle.search.specs.declared.queue.Found.{Found}

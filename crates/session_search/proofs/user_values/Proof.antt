@@ -1,7 +1,7 @@
 -- `session_search::user_values` meets its contract.
 use mathlib.Core.Path.{sym, ap, _∙_}
 use Rattle.runs.specs.Edge.{opensWith, changesTo}
-use Rattle.allowed.specs.Basis.{modelBy}
+use Rattle.allowed_rows.specs.Basis.{modelBy}
 use Rattle.search.specs.Queue.{nothing}
 use Rattle.search.specs.Sessions.{growTo}
 use Rattle.search.specs.declared.queue.Found.{Found}

@@ -3,7 +3,7 @@ use mathlib.Core.Path.{refl}
 use native.Mathlib.Omega.{arith}
 use Rattle.policy.specs.Nodes.{opOf}
 use Rattle.policy.specs.Rules.{listsOf}
-use Rattle.tables.proofs.Filling.{rows-few, table-none, table-filled}
+use Rattle.tables.proofs.Filling.{rows-are, rows-few, table-none, table-filled}
 use borrow.Author.Needs.{needs}
 use Rattle.tables.proofs.table.Statement.{statement}
 use Rattle.tables.proofs.table.Tie as tie
@@ -30,7 +30,7 @@ fill-requires c κs =
     let b = c .before .before .before .before .before .before in
     let a = b .args in
     let l = listsOf (a .classes) in
-    let e = c .before .before .before .rows-for .ensures l (a .lane) (a .row) (a .outer) (b .pre .1 .0) (b .pre .1 .1) in
+    let e = rows-are l (a .lane) (a .row) (a .outer) (a .onlane) (a .onrow) (a .onouter) _ _ _ (c .before .before .before .rows-for .ensures) (b .pre .1 .0) (b .pre .1 .1) in
     let w = rows-few l (a .lane) (a .row) (a .outer) (a .room) (b .pre .0 .0) (omega arith) (omega arith) (a .onlane) (a .onrow) (a .onouter) in
     (omega (arith, e, w), omega (arith, e, w))
 
@@ -44,7 +44,7 @@ returns-2 c =
     let a = b .args in
     let l = listsOf (a .classes) in (
       table-filled l (a .lane) (a .row) (a .outer) (a .onlane) (a .onrow) (a .onouter) (a .node) (a .base) _ _ _ _ _
-          (c .before .before .before .before .before .before .rows-for .ensures l (a .lane) (a .row) (a .outer) (b .pre .1 .0) (b .pre .1 .1))
+          (rows-are l (a .lane) (a .row) (a .outer) (a .onlane) (a .onrow) (a .onouter) _ _ _ (c .before .before .before .before .before .before .rows-for .ensures) (b .pre .1 .0) (b .pre .1 .1))
           (c .before .before .before .before .before .lane-for .ensures)
           (c .before .before .before .before .row-for .ensures)
           (w .ensures .0),

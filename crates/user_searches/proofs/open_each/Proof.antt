@@ -6,8 +6,8 @@ use Prim.Native.Nat.{ℕ, _-_, _≤_}
 use native.Mathlib.Omega.{arith}
 use lib.ListN.{length}
 use Rattle.lanes.specs.Lanes.{Lanes}
-use Rattle.allowed.specs.Asked.{OpenPrepared}
-use Rattle.user_searches.specs.Found.{opensIn}
+use Rattle.allowed_rows.specs.Asked.{OpenPrepared}
+use Rattle.user_searches.specs.Opened.{opensIn}
 use Rattle.user_searches.proofs.Laws.{Filled, filled-none, filled-more}
 use borrow.Author.Needs.{needs}
 use Rattle.user_searches.proofs.open_each.Statement.{statement}

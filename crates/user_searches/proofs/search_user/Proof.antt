@@ -5,8 +5,8 @@ use mathlib.Core.List.{List}
 use Prim.Native.Nat.{ℕ, _≤_, _<_}
 use borrow.Author.Tests.{lt-ltb, le-ltb}
 use lib.Dec.{ltb}
-use Rattle.allowed.specs.Basis.{rulesBy, modelBy}
-use Rattle.allowed.specs.declared.Basis.{Basis}
+use Rattle.allowed_rows.specs.Basis.{rulesBy, modelBy}
+use Rattle.allowed_rows.specs.declared.Basis.{Basis}
 use Rattle.allowed.proofs.ModelLaws.{model-users}
 use Rattle.search.specs.Queue.{nothing}
 use Rattle.search.specs.Sessions.{sessionsFound}

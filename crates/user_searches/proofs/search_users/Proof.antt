@@ -2,9 +2,9 @@
 use mathlib.Core.Path.{subst, _∙_}
 use native.Mathlib.Omega.{arith}
 use Rattle.runs.specs.Model.{Model}
-use Rattle.allowed.proofs.ModelLaws.{basis-model, basis-lists}
-use Rattle.allowed.proofs.ScratchLaws.{scratch-kept}
-use Rattle.user_searches.specs.Found.{UsersFound}
+use Rattle.allowed_rows.proofs.BasisLaws.{basis-model, basis-lists}
+use Rattle.allowed_rows.proofs.ScratchLaws.{scratch-kept}
+use Rattle.user_results.specs.Found.{UsersFound}
 use borrow.Author.Needs.{needs}
 use Rattle.user_searches.proofs.search_users.Statement.{statement}
 use Rattle.user_searches.proofs.search_users.Tie as tie

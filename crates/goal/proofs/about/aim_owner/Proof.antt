@@ -17,7 +17,7 @@ owner-of-requires c κs = search needs
 returns : tie.Need-returns
 returns c =
     let a = c .before .before .before .before .args in
-    let e : cond (eqb (a .q .whokind) 0) (getD (a .rules .sessions .users) (a .q .who) 0) (a .q .who) ≡ getD (a .rules .sessions .users) (a .q .who) 0 = simp (eq-eqb (a .q .whokind) 0 (c .before .before .if1 .taken)) in
+    let e : cond (eqb (a .q .whokind) 0) (getD (a .starting .users) (a .q .who) 0) (a .q .who) ≡ getD (a .starting .users) (a .q .who) 0 = simp (eq-eqb (a .q .whokind) 0 (c .before .before .if1 .taken)) in
     c .owner-of .ensures ∙ sym e
 
 returns-2 : tie.Need-returns-2

@@ -1,10 +1,6 @@
 -- `goal::session_values` meets its contract.
-use mathlib.Core.Path.{ap, ap₂, _∙_}
-use Rattle.policy.specs.Rules.{policyOf}
-use Rattle.runs.specs.Model.{Model}
-use Rattle.allowed.specs.Allowed.{modelOf}
-use Rattle.allowed.proofs.ModelLaws.{basis-model, basis-lists}
-use Rattle.search.specs.Queue.{nothing}
+use mathlib.Core.Path.{ap₂, _∙_}
+use Rattle.allowed_rows.specs.Basis.{modelBy}
 use Rattle.goal.proofs.Questions.{session-own, session-none}
 use Rattle.search.specs.Sessions.{ownFound}
 use borrow.Author.Needs.{needs}
@@ -21,9 +17,7 @@ held-of-requires : tie.Need-held-of-requires
 held-of-requires c κs = search needs
 
 own-values-requires : tie.Need-own-values-requires
-own-values-requires c κs =
-    let s = c .before .before .before .before .before .before .before .before .before .before .before .before .before .before in
-    (basis-lists (s .args .t1) (s .args .basis) (s .pre .0), s .pre .1)
+own-values-requires c κs = search needs
 
 same-length : tie.Need-same-length
 same-length c = search needs
@@ -33,23 +27,17 @@ same-length-2 c = search needs
 
 returns : tie.Need-returns
 returns c =
-    let v = c .before .before .before .before in
-    let owner = v .before .before .before .owner-of in
-    let held = v .before .held-of in
-    let s = v .before .before .before .before .before .before .before .before .before .before .before .before .before .before .before in
-    let a = s .args in
-    v .own-values .ensures
-    ∙ ap (λ (m : Model). ownFound m (owner .result) (held .result)) (basis-model (a .t1) (a .basis) (s .pre .0))
-    ∙ ap₂ (ownFound (modelOf (policyOf (a .t1)))) (owner .ensures) (held .ensures)
-    ∙ session-own (a .t1) (a .q) (v .before .before .before .before .before .before .before .before .before .before .before .if1 .taken)
+    let a = c .before .before .before .before .before .before .before .before .before .before .before .before .before .before .before .args in
+    c .before .before .before .before .own-values .ensures ∙ ap₂ (ownFound (modelBy (a .basis) (a .nodes .now))) (c .before .before .before .before .before .before .before .before .owner-of .ensures) (c .before .before .before .before .before .before .before .held-of .ensures)
+    ∙ session-own (modelBy (a .basis) (a .nodes .now)) (a .starting) (a .q) (c .before .before .before .before .before .before .before .before .before .before .if1 .taken)
 
 nothing-requires : tie.Need-nothing-requires
 nothing-requires c κs = search needs
 
 returns-2 : tie.Need-returns-2
 returns-2 c =
-    let a = c .before .before .before .before .before .args in
-    c .nothing .ensures ∙ session-none (a .t1) (a .q) (c .before .if1 .left)
+    let a = c .before .before .before .before .before .before .args in
+    c .nothing .ensures ∙ session-none (modelBy (a .basis) (a .nodes .now)) (a .starting) (a .q) (c .before .if1 .left)
 
 pub session-values-spec : {M : Type 1} → statement M
 session-values-spec =

@@ -4,7 +4,7 @@ use mathlib.Core.Bool.{Bool, false, true, cond}
 use Prim.Native.Nat.{ℕ}
 use native.Mathlib.Omega.{arith}
 use borrow.Author.Tests.{eqb-true}
-use Rattle.leaves.specs.Side.{operandAt}
+use Rattle.sides.specs.Side.{operandAt}
 use Rattle.leaves.proofs.values.few.Statement.{statement}
 use Rattle.leaves.proofs.values.few.Tie as tie
 

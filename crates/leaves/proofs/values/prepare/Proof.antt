@@ -1,5 +1,5 @@
--- `leaves::values::prepare` meets its contract: one operand has few values and its rows are laid out, or both are fields of the lane, or neither.
-use Rattle.leaves.proofs.Joins.{way-first, way-second, way-both, way-none}
+-- `leaves::values::prepare` meets its contract: one operand has few values and its rows are laid out, or neither has.
+use Rattle.leaves.proofs.Joins.{way-first, way-second, way-none}
 use borrow.Author.Needs.{needs}
 use Rattle.leaves.proofs.values.prepare.Statement.{statement}
 use Rattle.leaves.proofs.values.prepare.Tie as tie
@@ -36,14 +36,8 @@ returns-2 c =
     let f = q .before .few2 .ensures (q .if2 .taken) in
     (way-second _ _ _ record { field = f .0; bits = f .1; plain = f .2; rows = w .ensures .0 }, w .ensures .1)
 
-both-requires : tie.Need-both-requires
-both-requires c κs = search needs
-
 returns-3 : tie.Need-returns-3
-returns-3 c = (way-both _ _ _ (c .before .both .ensures (c .if3 .taken)), c .before .before .before .before .before .before .before .pre)
-
-returns-4 : tie.Need-returns-4
-returns-4 c = (way-none _ _ _, c .before .before .before .before .before .before .before .pre)
+returns-3 c = (way-none _ _ _, c .before .before .before .before .before .pre)
 
 pub prepare-spec : {M : Type 1} → statement M
 prepare-spec =
@@ -57,6 +51,4 @@ prepare-spec =
     value-rows-requires-2
     same-length-2
     returns-2
-    both-requires
-    returns-3
-    returns-4)
+    returns-3)

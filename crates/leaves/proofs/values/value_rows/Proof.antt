@@ -5,7 +5,8 @@ use native.Mathlib.Omega.{arith}
 use lib.ListN.{length}
 use lib.Pow.{pow-mono}
 use Rattle.leaves.specs.Values.{Hot}
-use Rattle.leaves.proofs.Parts.{one-shl, hot-start, hot-more}
+use Rattle.sides.proofs.Fields.{one-shl}
+use Rattle.leaves.proofs.Parts.{hot-start, hot-more}
 use borrow.Author.Needs.{needs}
 use Rattle.leaves.proofs.values.value_rows.Statement.{statement}
 use Rattle.leaves.proofs.values.value_rows.Tie as tie

@@ -16,7 +16,7 @@ use Rattle.policy.specs.File.{formulaFormat}
 use Rattle.policy.specs.Rules.{listsOf, nodesOf, formulasOf}
 use Rattle.policy.specs.declared.Classes.{Classes}
 use Rattle.policy.proofs.Laws.{formulas-none, formulas-more, formulas-length}
-use Rattle.reader.proofs.Reached.{Reached, reached-none, reached-more, reached-all}
+use Rattle.reader_head.proofs.Reached.{Reached, reached-none, reached-more, reached-all}
 use Rattle.reader.proofs.formulas.read_formulas.Statement.{statement}
 use Rattle.reader.proofs.formulas.read_formulas.Tie as tie
 

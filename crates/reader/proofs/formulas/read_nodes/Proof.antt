@@ -15,7 +15,7 @@ use Rattle.policy.specs.Rules.{listsOf, nodesOf}
 use Rattle.policy.specs.declared.Classes.{Classes}
 use Rattle.policy.proofs.Laws.{nodes-none, nodes-more, nodes-length}
 use Rattle.reader.specs.Parts.{Earlier}
-use Rattle.reader.proofs.Reached.{Reached, reached-none, reached-more, reached-all}
+use Rattle.reader_head.proofs.Reached.{Reached, reached-none, reached-more, reached-all}
 use Rattle.reader.proofs.formulas.read_nodes.Statement.{statement}
 use Rattle.reader.proofs.formulas.read_nodes.Tie as tie
 

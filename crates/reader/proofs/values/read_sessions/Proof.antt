@@ -14,7 +14,7 @@ use Rattle.policy.specs.Rules.{attrsOf, sessionsOf}
 use Rattle.policy.specs.declared.Class.{Class}
 use Rattle.policy.proofs.Laws.{sessions-none, sessions-more}
 use Rattle.reader.specs.Parts.{sessionOf}
-use Rattle.reader.proofs.Reached.{Reached, reached-none, reached-more, reached-all}
+use Rattle.reader_head.proofs.Reached.{Reached, reached-none, reached-more, reached-all}
 use Rattle.reader.proofs.values.read_sessions.Statement.{statement}
 use Rattle.reader.proofs.values.read_sessions.Tie as tie
 

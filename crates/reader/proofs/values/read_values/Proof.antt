@@ -12,7 +12,7 @@ use Rattle.policy.specs.File.{valueFormat}
 use Rattle.policy.specs.Rules.{attrsOf, valuesOf}
 use Rattle.policy.specs.declared.Class.{Class}
 use Rattle.policy.proofs.Laws.{values-none, values-more}
-use Rattle.reader.proofs.Reached.{Reached, reached-none, reached-more, reached-all}
+use Rattle.reader_head.proofs.Reached.{Reached, reached-none, reached-more, reached-all}
 use Rattle.reader.proofs.values.read_values.Statement.{statement}
 use Rattle.reader.proofs.values.read_values.Tie as tie
 

@@ -1,0 +1,1 @@
+pub mod Reached  -- rows that were read so far

@@ -1,0 +1,1 @@
+pub mod Found  -- what the searches of all users find together

@@ -12,7 +12,7 @@ use policy::Class;
 use policy::shape::{bits_for, byte_at};
 
 // Where the value of each operand of one holder begins in the holder's packed value, and how many bits it has there.
-#[derive(Drop)]
+#[derive(Clone, Copy)]
 pub(super) struct Fields {
     pub(super) shifts: [u8; 256],
     pub(super) bits: [u8; 256],

@@ -1,4 +1,6 @@
 // Packed values of a holder that a formula cannot tell apart: one of each kind is enough to ask.
+#![tactic(auto)]
+
 ghost use Rattle.std.specs.Prelude.{◌≡◌, cond, ℕ, ◌+◌, ◌*◌, ◌<◌, get_or};
 ghost use Rattle.lanes.specs.Lanes.{lane_of};
 ghost use Rattle.policy.specs.Rules.{lists_of, nodes_of};

@@ -1,4 +1,6 @@
 // What rules allow, asked for one value. The meaning is the model in specs/Allowed; crates above know formulas only through it.
+#![tactic(auto)]
+
 ghost use Rattle.std.specs.Prelude.{◌≡◌};
 ghost use Rattle.policy.specs.Rules.{policy_of};
 ghost use Rattle.allowed.specs.Allowed.{model_of};

@@ -1,4 +1,6 @@
 // What rules allow, asked of prepared formulas: for one value at a time of a row holder, and all values of a lane holder at once.
+#![tactic(auto)]
+
 ghost use Rattle.std.specs.Prelude.{◌≡◌, ◌&&◌, ℕ, ◌+◌, ◌<◌, ltb, length};
 ghost use Rattle.lanes.specs.Lanes.{lane_of, Lanes};
 ghost use Rattle.policy.specs.Rules.{lists_of};
@@ -15,7 +17,7 @@ use prepared::{Plan, begin, row};
 
 // What formulas are asked by, but for their nodes, which are lent beside it: the lists, the users' values, how many permissions there are, how many
 // nodes each formula has, and as sets the values in the lists of sessions and of items.
-#[derive(Drop)]
+#[derive(Clone, Copy)]
 pub struct Basis {
     pub classes: Classes,
     pub users: Values,

@@ -1,4 +1,6 @@
 // The analyser: safe or leak, for runs of any length.
+#![tactic(auto)]
+
 ghost use Rattle.std.specs.Prelude.{◌≡◌, List, ℕ, ◌^◌, ◌≤◌, ◌<◌, length};
 ghost use Rattle.policy.specs.Policy.{width};
 ghost use Rattle.policy.specs.Rules.{attrs_of, policy_of};
@@ -18,7 +20,7 @@ use rules::{Reading, read_rules};
 use search::queue::Found;
 
 // Safe, a leak, or the number that is given instead.
-#[derive(Drop)]
+#[derive(Clone, Copy)]
 pub enum Verdict {
     Safe,
     Leak,
@@ -26,7 +28,7 @@ pub enum Verdict {
 }
 
 // The verdict; how many pairs of user and session value can be open; how many values the asked item can have; and the rows of the leak.
-#[derive(Drop)]
+#[derive(Clone, Copy)]
 pub struct Answer {
     pub verdict: Verdict,
     pub pairs: usize,

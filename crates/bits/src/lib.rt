@@ -1,11 +1,13 @@
 // Fields of bits in bytes, and sets as masks: the leaves that every other crate reads and writes by.
+#![tactic(auto)]
+
 ghost use Rattle.std.specs.Prelude.{◌≡◌, cond, ◌+◌, ◌*◌, ◌/◌, ◌%◌, ◌^◌, ◌≤◌, ◌<◌, eqb, length, get_or};
 ghost use Rattle.bits.specs.Field.{number_at, field_at};
 ghost use Rattle.bits.specs.Packed.{put as put_of};
 ghost use Rattle.bits.specs.Set.{size_of, in_set, subset_of, proper_of};
 
 // What stands at a place of some bits: their number; or nothing, where the place runs past the end.
-#[derive(Drop)]
+#[derive(Clone, Copy)]
 pub enum Field {
     Value(u64),
     Absent,

@@ -1,4 +1,6 @@
 // Rows of 256 bits in a lent area, four words a row, and steps that work out rows from others.
+#![tactic(auto)]
+
 ghost use Rattle.std.specs.Prelude.{◌≡◌, ℕ, ◌+◌, ◌*◌, ◌≤◌, ◌<◌, length, get_or};
 ghost use Rattle.lanes.specs.Lanes.{lane_of, Lanes};
 ghost use Rattle.bitsets.specs.Rows.{bit_at, Rows, put};

@@ -1,6 +1,8 @@
 // Runs the stored cases of tests/vectors/rules.txt, which make.py has turned into records on standard input, and prints each answer:
 // `refused n`, or `ok length` and whether the bytes written are the right ones and all others are as they were. Of a file, how many bits were taken
 // stands first; and where it is accepted, `read,` stands before what writing its rules back gives.
+#![tactic(auto)]
+
 ghost use Rattle.std.specs.Prelude.{◌+◌, ◌≤◌, ◌<◌, length};
 
 mod change;

@@ -1,5 +1,7 @@
 // Runs a stored list of steps by `monitor::step_with`, each with the next numbers that the one before gave back. Prints for each row what it
 // came to and the next numbers after it, and at the end the cells.
+#![tactic(auto)]
+
 use libc::STDOUT_FILENO;
 use live::{Next, Outcome};
 

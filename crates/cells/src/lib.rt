@@ -1,4 +1,6 @@
 // Rows and cells: a step as 64 bits, and how the lent cells code sessions and items (docs/CELLS.md).
+#![tactic(auto)]
+
 ghost use Rattle.std.specs.Prelude.{◌≡◌, false, get_or};
 ghost use Rattle.policy.specs.Rules.{attrs_of};
 ghost use Rattle.lists.specs.Lists.{listed as listed_in};
@@ -11,7 +13,7 @@ use policy::Class;
 pub use row::Row;
 
 // What a lent session cell says: an open session's user and value, or nothing (both are then 0).
-#[derive(Drop)]
+#[derive(Clone, Copy)]
 pub struct SessionRead {
     pub there: bool,
     pub user: u8,
@@ -19,7 +21,7 @@ pub struct SessionRead {
 }
 
 // What a lent item cell says: an item's value, or nothing (it is then 0).
-#[derive(Drop)]
+#[derive(Clone, Copy)]
 pub struct ItemRead {
     pub there: bool,
     pub value: u8,

@@ -1,4 +1,6 @@
 // Decides a question of rules whose users' sessions were searched.
+#![tactic(auto)]
+
 ghost use Rattle.std.specs.Prelude.{ℕ, ◌≤◌, ◌<◌};
 ghost use Rattle.allowed_rows.specs.Basis.{BasisOf};
 ghost use Rattle.allowed_rows.specs.Scratch.{Scratch};
@@ -15,7 +17,7 @@ use replay::question::Question;
 use search::queue::Found;
 
 // Whether there is a leak; how many pairs of user and session value can be open; how many values the asked item can have; and the rows of the leak.
-#[derive(Drop)]
+#[derive(Clone, Copy)]
 pub struct Decision {
     pub leak: bool,
     pub pairs: usize,

@@ -1,4 +1,6 @@
 // Which nodes of a formula depend on a holder.
+#![tactic(auto)]
+
 ghost use Rattle.std.specs.Prelude.{◌≡◌, false, ◌&&◌, ℕ, ◌+◌, ◌*◌, ◌≤◌, ltb, length, get_or};
 ghost use Rattle.dependence.specs.Depends.{depends_at, Depends};
 

@@ -6,7 +6,7 @@ ghost use Rattle.format.specs.Reader.{found_at, past};
 use bits::{Field, field_at};
 
 // A field, and where the next one begins: where this one was to begin, if it runs past the end.
-#[derive(Drop)]
+#[derive(Clone, Copy)]
 pub struct Found {
     pub field: Field,
     pub at: usize,
@@ -28,7 +28,7 @@ fn found_at(s: &[u8], at: usize, w: usize) -> Found
 }
 
 // The file's bytes, and the place reached in them, in bits.
-#[derive(Drop)]
+#[derive(Clone, Copy)]
 pub struct BitReader<'a> {
     pub src: &'a [u8],
     pub at: usize,

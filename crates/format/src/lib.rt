@@ -1,4 +1,6 @@
 // The steps that every reader and writer of a format is made of: a field is taken, judged or stored, and a cursor goes along.
+#![tactic(auto)]
+
 ghost use Rattle.std.specs.Prelude.{◌≡◌, ◌+◌, ◌*◌, ◌^◌, ◌≤◌, ◌<◌, ltb};
 ghost use Rattle.format.specs.Format.{Format, taken, field, within as within_of};
 ghost use Rattle.format.specs.Steps.{from, taken_of, judged as judged_of, CountIsPlace, Near, Stores};
@@ -11,7 +13,7 @@ use bits::Field;
 // The place reached, in bits, and how many bits of the file were taken until then; or a refusal: its number, the place where it was judged, and
 // the bits taken until then. Number 0: none was given. In reading only `take` changes the place and the count, both alike; in writing only
 // `put_field` changes the place, and nothing is taken.
-#[derive(Drop)]
+#[derive(Clone, Copy)]
 pub struct Cursor {
     pub number: u8,
     pub pos: usize,
@@ -19,7 +21,7 @@ pub struct Cursor {
 }
 
 // A number that was read, with the place after it.
-#[derive(Drop)]
+#[derive(Clone, Copy)]
 pub struct Taken {
     pub at: Cursor,
     pub value: u64,

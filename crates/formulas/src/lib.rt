@@ -1,4 +1,6 @@
 // What a formula says of the values that its holders have.
+#![tactic(auto)]
+
 ghost use Rattle.std.specs.Prelude.{◌≡◌, ◌≤◌};
 ghost use Rattle.policy.specs.Rules.{lists_of, nodes_of};
 ghost use Rattle.formulas.specs.Meaning.{holds as holds_of};
@@ -10,7 +12,7 @@ pub mod table;
 use policy::Classes;
 
 // The packed values of the holders that a formula can look at.
-#[derive(Drop)]
+#[derive(Clone, Copy)]
 pub struct Holders {
     pub user: u8,
     pub session: u8,

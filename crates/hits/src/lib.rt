@@ -1,4 +1,6 @@
 // The first item value on which a session that is asked about has the permission.
+#![tactic(auto)]
+
 ghost use Rattle.std.specs.Prelude.{◌≡◌, cond, ◌⊎◌, ◌≤◌, ◌<◌, ltb};
 ghost use Rattle.lanes.specs.Lanes.{lane_of};
 ghost use Rattle.allowed_rows.specs.Asked.{AccessReady};
@@ -12,7 +14,7 @@ use prepared::Plan;
 use search::queue::Found;
 
 // A place of a search, and the first session value with the permission on the value there; 256 for none.
-#[derive(Drop)]
+#[derive(Clone, Copy)]
 pub struct Hit {
     pub place: usize,
     pub value: usize,

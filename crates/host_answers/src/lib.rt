@@ -1,4 +1,6 @@
 // The calls of the analyser and of replay for hosts: each returns 0, or paper 01's number.
+#![tactic(auto)]
+
 ghost use Rattle.std.specs.Prelude.{◌≡◌};
 ghost use Rattle.rules.specs.Answers.{reading};
 ghost use Rattle.replay.specs.Replay.{replayed};

@@ -1,4 +1,6 @@
 // The calls on rule files for hosts: each returns 0, or paper 01's number.
+#![tactic(auto)]
+
 ghost use Rattle.std.specs.Prelude.{◌≡◌, length};
 ghost use Rattle.rules.specs.Answers.{reading, bits_taken, filled};
 ghost use Rattle.host_files.specs.Numbers.{number_of, rewritten, write_number, write_length};

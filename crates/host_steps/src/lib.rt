@@ -1,4 +1,6 @@
 // The calls on live states for hosts: each returns 0, or paper 01's number, and the next numbers are lent one by one.
+#![tactic(auto)]
+
 ghost use Rattle.std.specs.Prelude.{◌≡◌};
 ghost use Rattle.rules.specs.Answers.{reading};
 ghost use Rattle.live.specs.Lent.{lent_as, host_number};

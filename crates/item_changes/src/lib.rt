@@ -1,4 +1,6 @@
 // What sessions may change items to: a search from the values that are found.
+#![tactic(auto)]
+
 ghost use Rattle.std.specs.Prelude.{◌≡◌, ◌<◌};
 ghost use Rattle.lanes.specs.Lanes.{lane_of};
 ghost use Rattle.allowed_rows.specs.Asked.{ModifyPrepared, ModifyReady};

@@ -1,4 +1,6 @@
 // Searches of item values.
+#![tactic(auto)]
+
 ghost use Rattle.std.specs.Prelude.{◌≡◌, ◌&&◌, ℕ};
 ghost use Rattle.lanes.specs.Lanes.{lane_of, Lanes};
 ghost use Rattle.policy.specs.Rules.{values_of};

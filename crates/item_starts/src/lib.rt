@@ -1,4 +1,6 @@
 // What items begin with: the values of the starting items, and those that sessions can make.
+#![tactic(auto)]
+
 ghost use Rattle.std.specs.Prelude.{◌≡◌};
 ghost use Rattle.lanes.specs.Lanes.{lane_of};
 ghost use Rattle.policy.specs.Rules.{values_of};

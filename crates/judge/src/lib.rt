@@ -1,4 +1,6 @@
 // What a step would come to on lent cells that are only read; and doing what was judged.
+#![tactic(auto)]
+
 ghost use Rattle.std.specs.Prelude.{◌≡◌};
 ghost use Rattle.policy.specs.Rules.{policy_of};
 ghost use Rattle.allowed.specs.Allowed.{model_of};
@@ -16,7 +18,7 @@ use live::{Next, Outcome, Stepped};
 use policy::Rules;
 
 // The cell that a step would write, its place and what it would hold: none, a session's or an item's.
-#[derive(Drop)]
+#[derive(Clone, Copy)]
 pub enum Change {
     Nothing,
     Session(usize, u64),
@@ -24,7 +26,7 @@ pub enum Change {
 }
 
 // What a step would come to, the next numbers after it, and the cell that it would write.
-#[derive(Drop)]
+#[derive(Clone, Copy)]
 pub struct Judged {
     pub outcome: Outcome,
     pub next: Next,

@@ -1,4 +1,6 @@
 // The rows of a leak: the item is brought to its value, then the session that is asked about, then the access.
+#![tactic(auto)]
+
 ghost use Rattle.std.specs.Prelude.{◌≡◌, List, ◌∷◌, [], ℕ, ◌+◌, ◌-◌, ◌≤◌, ◌<◌, length};
 ghost use Rattle.session_rows.specs.Writing.{writing_of, Wrote};
 ghost use Rattle.search.specs.Searched.{depth_at};
@@ -13,7 +15,7 @@ use session_rows::{Pen, end};
 
 // What a leak aims at: who is asked about (0 a starting session, with its owner; 1 a user; 2 anyone), the value that the actor is to have, how many
 // starting items there are, and the permission.
-#[derive(Drop)]
+#[derive(Clone, Copy)]
 pub struct Aim {
     pub whokind: u8,
     pub session: u64,

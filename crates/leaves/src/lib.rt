@@ -1,4 +1,6 @@
 // Comparisons as rows of bits: one bit for each packed value of one holder, one row for each of another.
+#![tactic(auto)]
+
 ghost use Rattle.std.specs.Prelude.{◌≡◌, ◌+◌, ◌*◌, ◌≤◌, ◌<◌, length};
 ghost use Rattle.policy.specs.Rules.{lists_of};
 ghost use Rattle.lanes.specs.Lanes.{Lanes};

@@ -1,4 +1,6 @@
 // Which values are in the lists of a class of holders.
+#![tactic(auto)]
+
 ghost use Rattle.std.specs.Prelude.{◌≡◌};
 ghost use Rattle.policy.specs.Rules.{attrs_of};
 ghost use Rattle.lists.specs.Lists.{in_lists, listed as listed_in};

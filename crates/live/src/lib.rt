@@ -1,23 +1,25 @@
 // The live state's next numbers, and what a call on it comes to. The state itself, and what a call leaves, are in specs/Lent.
+#![tactic(auto)]
+
 ghost use Rattle.std.specs.Prelude.{◌≡◌};
 ghost use Rattle.live.specs.Lent.{refusal_of, host_number};
 
 // The next session number and the next item number.
-#[derive(Drop)]
+#[derive(Clone, Copy)]
 pub struct Next {
     pub session: u64,
     pub item: u64,
 }
 
 // Carried out, or the number that is given instead.
-#[derive(Drop)]
+#[derive(Clone, Copy)]
 pub enum Outcome {
     Done,
     Refused(u8),
 }
 
 // What a step came to, and the next numbers after it.
-#[derive(Drop)]
+#[derive(Clone, Copy)]
 pub struct Stepped {
     pub outcome: Outcome,
     pub next: Next,

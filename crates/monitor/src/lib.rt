@@ -1,5 +1,7 @@
 // The monitor: steps on lent cells, each judged and then done. What a step does is in crate steps, specs/Step; how cells are coded in
 // docs/CELLS.md.
+#![tactic(auto)]
+
 ghost use Rattle.std.specs.Prelude.{◌≡◌};
 ghost use Rattle.policy.specs.Rules.{policy_of};
 ghost use Rattle.allowed.specs.Allowed.{model_of};

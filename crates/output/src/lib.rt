@@ -1,4 +1,6 @@
 // What the programs print: one line for the verdict, then a line for each row of a leak.
+#![tactic(auto)]
+
 ghost use Rattle.std.specs.Prelude.{◌≡◌, [], ◌∷◌, ◌++◌, ◌+◌, ◌≤◌, min, length, get_or};
 ghost use Rattle.analyser.specs.Told.{told_of};
 ghost use Rattle.output.specs.Lines.{numeral, safe_word, leak_word, refused_word, line, verdict_line, row_line, line_at};

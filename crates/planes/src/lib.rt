@@ -1,4 +1,6 @@
 // Values of a holder in lanes: which numbers are values of a class, and where a comparison of operands holds, 64 values in a word, one bit a value.
+#![tactic(auto)]
+
 ghost use Rattle.std.specs.Prelude.{◌≡◌};
 ghost use Rattle.lanes.specs.Lanes.{Lanes};
 ghost use Rattle.policy.specs.Nodes.{of_holder};

@@ -7,7 +7,7 @@ use super::word::{at, whole};
 
 // An operand: so many bits of the lane's number as `bits` says, from bit `shift` on, and above them the bits of one number. Its list has `size`
 // values.
-#[derive(Drop)]
+#[derive(Clone, Copy)]
 pub struct Operand {
     pub shift: u8,
     pub bits: u8,
@@ -16,7 +16,7 @@ pub struct Operand {
 }
 
 // Where one number is below another, and where they are the same.
-#[derive(Drop)]
+#[derive(Clone, Copy)]
 pub(super) struct Ordered {
     pub(super) below: u64,
     pub(super) same: u64,

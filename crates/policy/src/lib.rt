@@ -1,4 +1,6 @@
 // Rules in memory, and what each of their parts may hold. The meaning of the rule file is in specs/.
+#![tactic(auto)]
+
 ghost use Rattle.std.specs.Prelude.{◌≡◌};
 ghost use Rattle.policy.specs.Rules.{no_rules};
 
@@ -7,7 +9,7 @@ pub mod shape;
 
 // The attributes of one class of holders, count of them: attribute k is of kind kinds[k] (0 atomic, 1 a set), size sizes[k] and list number
 // lists[k].
-#[derive(Drop)]
+#[derive(Clone, Copy)]
 pub struct Class {
     pub count: u8,
     pub kinds: [u8; 8],
@@ -16,7 +18,7 @@ pub struct Class {
 }
 
 // The attributes of users, sessions and items.
-#[derive(Drop)]
+#[derive(Clone, Copy)]
 pub struct Classes {
     pub user: Class,
     pub session: Class,
@@ -24,14 +26,14 @@ pub struct Classes {
 }
 
 // Holders' values, count of them.
-#[derive(Drop)]
+#[derive(Clone, Copy)]
 pub struct Values {
     pub count: u8,
     pub values: [u8; 32],
 }
 
 // Starting sessions, count of them: their users and values.
-#[derive(Drop)]
+#[derive(Clone, Copy)]
 pub struct Sessions {
     pub count: u8,
     pub users: [u8; 32],
@@ -41,7 +43,7 @@ pub struct Sessions {
 // Rules in memory. Every field is a plain number that may be out of range; places that no count covers don't matter.
 // Formula f (open session, change session, make item, change item, then the permissions) has lengths[f] nodes;
 // node i is nodes[64 * f + i], operator * 65536 + a * 256 + b.
-#[derive(Drop)]
+#[derive(Clone, Copy)]
 pub struct Rules {
     pub classes: Classes,
     pub users: Values,

@@ -46,7 +46,7 @@ fn of_holder(classes: Classes, h: u32) -> Class
 
 // What an operand of a formula names: an attribute of a kind, a constant from 0 to 15, or nothing that may stand there. Of an attribute the list
 // number is given too.
-#[derive(Drop)]
+#[derive(Clone, Copy)]
 pub struct Operand {
     pub sort: u8,
     pub list: u8,

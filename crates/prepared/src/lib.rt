@@ -1,4 +1,6 @@
 // Prepared formulas: what can be worked out once is, and each question is then answered for all packed values of one holder at once.
+#![tactic(auto)]
+
 ghost use Rattle.std.specs.Prelude.{◌≡◌, length};
 ghost use Rattle.lanes.specs.Lanes.{Lanes};
 ghost use Rattle.bitsets.specs.Rows.{bit_at, Rows};
@@ -7,7 +9,7 @@ ghost use Rattle.prepared.specs.Prepared.{begun, rowed, Runs};
 use bitsets::{load, run};
 
 // Of a prepared formula: how many nodes it has, how many values of the row holder and of the outer holder are told apart, and how many steps its lists have.
-#[derive(Drop)]
+#[derive(Clone, Copy)]
 pub struct Plan {
     pub nodes: usize,
     pub rows: usize,

@@ -8,7 +8,7 @@ use bitsets::run;
 use tables::places;
 
 // How many steps the three lists have.
-#[derive(Drop)]
+#[derive(Clone, Copy)]
 pub(super) struct Counts {
     pub(super) across: usize,
     pub(super) board: usize,

@@ -1,4 +1,6 @@
 // Formulas are prepared: which holders each node depends on, tables of the comparisons, lists of steps.
+#![tactic(auto)]
+
 ghost use Rattle.std.specs.Prelude.{◌≡◌, ◌+◌, ◌*◌, ◌≤◌, length, get_or};
 ghost use Rattle.policy.specs.Rules.{lists_of, nodes_of};
 ghost use Rattle.dependence.specs.Depends.{Depends};

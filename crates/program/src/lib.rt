@@ -1,4 +1,6 @@
 // The program between reading its input and writing its lines.
+#![tactic(auto)]
+
 ghost use Rattle.std.specs.Prelude.{◌≡◌, ◌<◌, length};
 ghost use Rattle.analyser.specs.Told.{told_of};
 ghost use Rattle.program.specs.Program.{ProgramMeans, largest_input};

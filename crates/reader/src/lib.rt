@@ -1,5 +1,7 @@
 // Reading rules, part by part in the file's order. Each part takes a cursor and gives the one after it; once a number was given, every
 // later part leaves the cursor as it is.
+#![tactic(auto)]
+
 ghost use Rattle.std.specs.Prelude.{◌≡◌, ◌≤◌};
 ghost use Rattle.format.specs.Format.{Format};
 ghost use Rattle.format.specs.Steps.{res_of, CountIsPlace};
@@ -17,14 +19,14 @@ use reader_head::lists::read_classes;
 use values::{read_sessions, read_values};
 
 // Holders' values as they were read.
-#[derive(Drop)]
+#[derive(Clone, Copy)]
 pub struct ValuesRead {
     pub at: Cursor,
     pub values: Values,
 }
 
 // A starting session as it was read.
-#[derive(Drop)]
+#[derive(Clone, Copy)]
 pub struct SessionRead {
     pub at: Cursor,
     pub user: u8,
@@ -32,14 +34,14 @@ pub struct SessionRead {
 }
 
 // The starting sessions as they were read.
-#[derive(Drop)]
+#[derive(Clone, Copy)]
 pub struct SessionsRead {
     pub at: Cursor,
     pub sessions: Sessions,
 }
 
 // The formulas as they were read.
-#[derive(Drop)]
+#[derive(Clone, Copy)]
 pub struct FormulasRead {
     pub at: Cursor,
     pub lengths: [u8; 12],
@@ -47,7 +49,7 @@ pub struct FormulasRead {
 }
 
 // Rules as they were read; those of no file where a number was given.
-#[derive(Drop)]
+#[derive(Clone, Copy)]
 pub struct RulesRead {
     pub at: Cursor,
     pub rules: Rules,

@@ -1,4 +1,6 @@
 // Reading what stands before the values of a file: the head and the lists of attributes.
+#![tactic(auto)]
+
 pub mod head;
 pub mod lists;
 
@@ -6,7 +8,7 @@ use format::Cursor;
 use policy::{Class, Classes};
 
 // The head's counts as they were read; each within its range, also where a number was given.
-#[derive(Drop)]
+#[derive(Clone, Copy)]
 pub struct Counts {
     pub at: Cursor,
     pub user: u8,
@@ -19,7 +21,7 @@ pub struct Counts {
 }
 
 // An attribute as it was read.
-#[derive(Drop)]
+#[derive(Clone, Copy)]
 pub struct Attribute {
     pub at: Cursor,
     pub kind: u8,
@@ -28,14 +30,14 @@ pub struct Attribute {
 }
 
 // The attributes of a class as they were read; none where a number was given.
-#[derive(Drop)]
+#[derive(Clone, Copy)]
 pub struct ClassRead {
     pub at: Cursor,
     pub class: Class,
 }
 
 // The attributes of the three classes as they were read.
-#[derive(Drop)]
+#[derive(Clone, Copy)]
 pub struct ClassesRead {
     pub at: Cursor,
     pub classes: Classes,

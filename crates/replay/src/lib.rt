@@ -1,4 +1,6 @@
 // Replay: a leak's rows are run from a file's start, and the last must be the grant that was asked about.
+#![tactic(auto)]
+
 ghost use Rattle.std.specs.Prelude.{◌≡◌};
 ghost use Rattle.rules.specs.Answers.{reading};
 ghost use Rattle.live.specs.Lent.{refusal_of};

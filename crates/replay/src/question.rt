@@ -7,7 +7,7 @@ use policy::Rules;
 use policy::shape::byte_at;
 
 // The parts of a question, any numbers; the two spare fields are added up.
-#[derive(Drop)]
+#[derive(Clone, Copy)]
 pub struct Question {
     pub whokind: u8,
     pub who: u8,

@@ -10,7 +10,7 @@ use monitor::step_at;
 use policy::Rules;
 
 // How rows came out: carried out, or the number of the first that was not; the next numbers; how many were carried out.
-#[derive(Drop)]
+#[derive(Clone, Copy)]
 pub struct Steps {
     pub outcome: Outcome,
     pub next: Next,

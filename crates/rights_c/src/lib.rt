@@ -1,4 +1,6 @@
 // The library for C and Rust hosts: each call returns 0, or paper 01's number, and is one call of a crate below.
+#![tactic(auto)]
+
 ghost use Rattle.std.specs.Prelude.{◌≡◌, length};
 ghost use Rattle.rules.specs.Answers.{reading, bits_taken, filled};
 ghost use Rattle.live.specs.Lent.{lent_as, host_number};

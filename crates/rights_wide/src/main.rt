@@ -1,5 +1,7 @@
 // Reads a question (three bytes) and a rule file from standard input, and prints SAFE and both counts, or LEAK with the leak's rows, or REFUSED and
 // the number. It lends the analyser 66,049 rows, enough for widths 8 and 8.
+#![tactic(auto)]
+
 use replay::question::Question;
 
 fn main() {

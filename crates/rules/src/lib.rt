@@ -1,5 +1,7 @@
 // Rule files: rules are read from bytes, or refused by their first number; and rules are written to bytes, or refused by the number
 // that reading them would give.
+#![tactic(auto)]
+
 ghost use Rattle.std.specs.Prelude.{◌≡◌, ◌++◌, ◌*◌, ◌^◌, ◌≤◌, ◌<◌, eqb, length, take, drop};
 ghost use Rattle.policy.specs.Rules.{policy_of};
 ghost use Rattle.rules.specs.Answers.{answer_of, reading, bits_taken, beside, writing, written_of, filled};
@@ -8,14 +10,14 @@ use format::{judged, read_field};
 use policy::{Rules, no_rules};
 
 // What reading a file found: rules, or the number that is given instead.
-#[derive(Drop)]
+#[derive(Clone, Copy)]
 pub enum Reading {
     Accepted,
     Refused(u8),
 }
 
 // The answer, the rules beside it (those of the file, or where a number is given those of no file), and how many bits of the file were taken.
-#[derive(Drop)]
+#[derive(Clone, Copy)]
 pub struct Parsed {
     pub answer: Reading,
     pub rules: Rules,
@@ -23,7 +25,7 @@ pub struct Parsed {
 }
 
 // What writing did: filled so many bytes, or nothing, for the number given.
-#[derive(Drop)]
+#[derive(Clone, Copy)]
 pub enum Written {
     Length(usize),
     Refused(u8),

@@ -1,5 +1,7 @@
 // Writes rules whose numbers it reads from standard input, and prints for each what the writer gives: the bytes in hexadecimal, or REFUSED and the
 // number. What a record holds is in src/record.rt.
+#![tactic(auto)]
+
 mod record;
 
 use libc::{STDIN_FILENO, STDOUT_FILENO};

@@ -1,4 +1,6 @@
 // The rows so far of a leak, and those that bring a session to a value, along the way by which it was found.
+#![tactic(auto)]
+
 ghost use Rattle.std.specs.Prelude.{◌≡◌, cond, ◌-◌, ◌≤◌, ◌<◌, eqb, length, get_or};
 ghost use Rattle.search.specs.Queue.{nothing as nothing_of};
 ghost use Rattle.search.specs.Searched.{value_at, via_at, depth_at, place_at};
@@ -15,7 +17,7 @@ use search::queue::{Found, nothing};
 
 // Where the rows so far end, the next session number, and of each session value the number plus 1 of a session that stands open with it, or 0,
 // and its user.
-#[derive(Drop)]
+#[derive(Clone, Copy)]
 pub struct Pen {
     pub at: usize,
     pub next: u64,

@@ -1,4 +1,6 @@
 // Searches of session values.
+#![tactic(auto)]
+
 ghost use Rattle.std.specs.Prelude.{◌≡◌, ◌&&◌, ℕ, ◌+◌, ◌<◌, ltb};
 ghost use Rattle.lanes.specs.Lanes.{lane_of, Lanes};
 ghost use Rattle.runs.specs.Edge.{changes_to};

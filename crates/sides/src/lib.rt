@@ -1,4 +1,6 @@
 // Operands of a comparison, by the holder whose values stand for lanes and the one whose values stand for rows.
+#![tactic(auto)]
+
 ghost use Rattle.std.specs.Prelude.{◌≡◌, false, ◌+◌, ◌/◌, ◌%◌, ◌^◌, ◌≤◌, ◌<◌, drop};
 ghost use Rattle.policy.specs.Policy.{width};
 ghost use Rattle.policy.specs.Rules.{attrs_of, lists_of};
@@ -12,7 +14,7 @@ use policy::{Class, Classes};
 
 // Where the value of an attribute lies in a packed value: how many bits stand right of it, at most 8, and how many it has itself. Its list has `size`
 // values.
-#[derive(Drop)]
+#[derive(Clone, Copy)]
 pub struct Field {
     pub shift: u8,
     pub bits: u8,
@@ -20,7 +22,7 @@ pub struct Field {
 }
 
 // An operand: a field of the row's number where `row` is true, else one of the lane's, which has no bits where one number is in all lanes.
-#[derive(Drop)]
+#[derive(Clone, Copy)]
 pub struct Side {
     pub row: bool,
     pub shift: u8,

@@ -1,5 +1,7 @@
 // Starting: the cells of a file's starting sessions and items are written. What starting does is in specs/Start, how cells are coded in
 // docs/CELLS.md.
+#![tactic(auto)]
+
 ghost use Rattle.std.specs.Prelude.{◌≡◌};
 ghost use Rattle.policy.specs.Rules.{policy_of};
 ghost use Rattle.rules.specs.Answers.{reading, rules as rules_of};
@@ -13,7 +15,7 @@ use policy::Rules;
 use rules::{Reading, read_rules};
 
 // What starting came to, the next numbers, and the file's rules, or those of no file where it can't be read.
-#[derive(Drop)]
+#[derive(Clone, Copy)]
 pub struct Started {
     pub outcome: Outcome,
     pub next: Next,

@@ -1,4 +1,6 @@
 // The tables of a formula's comparisons.
+#![tactic(auto)]
+
 ghost use Rattle.std.specs.Prelude.{◌≡◌, ◌&&◌, ◌||◌, cond, ℕ, ◌+◌, ◌*◌, ◌≤◌, ◌<◌, length, get_or};
 ghost use Rattle.policy.specs.Policy.{width};
 ghost use Rattle.policy.specs.Nodes.{of_holder};

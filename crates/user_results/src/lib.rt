@@ -1,4 +1,6 @@
 // What the searches of all users' sessions say together.
+#![tactic(auto)]
+
 ghost use Rattle.std.specs.Prelude.{◌≡◌, ◌&&◌, ◌||◌, cond, ℕ, ◌+◌, ◌≤◌, ◌<◌, eqb};
 ghost use Rattle.bits.specs.Packed.{tab};
 ghost use Rattle.lanes.specs.Lanes.{Lanes};

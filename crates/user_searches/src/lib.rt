@@ -1,4 +1,6 @@
 // The searches of all users' sessions.
+#![tactic(auto)]
+
 ghost use Rattle.std.specs.Prelude.{◌≡◌, cond, ◌⊎◌, ◌≤◌, ◌<◌, ltb, get_or};
 ghost use Rattle.lanes.specs.Lanes.{Lanes};
 ghost use Rattle.policy.specs.Rules.{policy_of};

@@ -1,6 +1,8 @@
 // Writing rules, part by part in the file's order. Each part judges its fields and stores them, and gives the cursor after them; once a
 // number was given, every later part leaves the cursor as it is and stores nothing. A field that has no room is judged and
 // not stored.
+#![tactic(auto)]
+
 ghost use Rattle.std.specs.Prelude.{◌≡◌, ◌^◌, ◌<◌};
 ghost use Rattle.format.specs.Format.{Format};
 ghost use Rattle.format.specs.Steps.{Stores};

@@ -1,4 +1,6 @@
 // Storing what stands before the values of a file: the head, the lists of attributes (lists), and the one step that most fields are stored by.
+#![tactic(auto)]
+
 ghost use Rattle.std.specs.Prelude.{◌≡◌, ◌+◌, ◌^◌, ◌≤◌, ◌<◌};
 ghost use Rattle.format.specs.Format.{Format, field, within as within_of};
 ghost use Rattle.format.specs.Steps.{Stores};
@@ -10,7 +12,7 @@ pub mod lists;
 use format::{Cursor, put_field, within};
 
 // The head's counts.
-#[derive(Drop)]
+#[derive(Clone, Copy)]
 pub struct Counts {
     pub user: u8,
     pub session: u8,

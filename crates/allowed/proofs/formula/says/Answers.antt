@@ -1,0 +1,19 @@
+-- `allowed::says` meets its contract: the nodes of formula f, and none past the last formula.
+use mathlib.Core.Path.{sym, ap, ◌∙◌}
+use Prim.Native.Nat.{ℕ}
+use native.Mathlib.Omega.{arith}
+use Rattle.policy.specs.Rules.{lists_of, nodes_of}
+use Rattle.formulas.specs.Meaning.{holds}
+use Rattle.allowed.proofs.Laws.{says_at, says_none}
+use borrow.Author.Rules.{rules}
+use Rattle.allowed.proofs.formula.says.Goals as goal
+
+pub returns-then-rules-f : goal.returns-then-rules-f
+returns-then-rules-f c = let a = c.args in sym (says_none a.t1 a.f a.holders (omega arith))
+
+pub returns : goal.returns
+returns c =
+    let a = c.args in
+    c.holds.ensures
+    ∙ ap (λ (n : ℕ). holds (lists_of a.t1.classes) a.holders (nodes_of a.t1.nodes a.f n)) c.byte_at-n.ensures
+    ∙ sym (says_at a.t1 a.f a.holders (omega arith))

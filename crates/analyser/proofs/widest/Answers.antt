@@ -1,0 +1,30 @@
+-- `analyser::widest` meets its contract.
+use mathlib.Core.Logic.{⊎_elim}
+use Prim.Native.Nat.{◌≤◌}
+use native.Mathlib.Omega.{arith}
+use borrow.Author.Rules.{rules}
+use Rattle.analyser.proofs.widest.Goals as goal
+
+-- the wider of the first two
+wider : (t : tie.Joined1) → (t.before.before.before.class-width.result ≤ t.if1.m) × (t.before.before.class-width2.result ≤ t.if1.m)
+wider t =
+    ⊎_elim
+    (λ z. (omega (arith, z.0.taken, z.1), omega (arith, z.0.taken, z.1)))
+    (λ z. (omega (arith, z.0.left, z.1), omega (arith, z.0.left, z.1)))
+    t.if1.branch
+
+pub returns-then-m-o : goal.returns-then-m-o
+returns-then-m-o c =
+    let (u, s) = wider t in (
+      omega (arith, u, c.if-m-o.true, c.class_width-u.ensures.value),
+      omega (arith, s, c.if-m-o.true, c.class_width-s.ensures.value),
+      omega (arith, c.class_width-o.ensures.value),
+    )
+
+pub returns-else-m-o : goal.returns-else-m-o
+returns-else-m-o c =
+    let (u, s) = wider t in (
+      omega (arith, u, c.class_width-u.ensures.value),
+      omega (arith, s, c.class_width-s.ensures.value),
+      omega (arith, c.if-m-o.false, c.class_width-o.ensures.value),
+    )

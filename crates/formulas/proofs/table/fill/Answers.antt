@@ -1,0 +1,93 @@
+-- `formulas::table::fill` meets its contract. The loop's invariant: the places from k on are filled in, in both tables, and x and y are what stands
+-- left of these attributes in v and w. The measure is k.
+use mathlib.Core.Path.{◌≡◌, refl, sym, ap, ◌∙◌}
+use mathlib.Core.Bool.{Bool, cond}
+use mathlib.Core.List.{List}
+use Prim.Native.Nat.{ℕ, ◌+◌, ◌*◌, ◌-◌, ◌/◌, ◌^◌, ◌<◌, ◌≤◌, min}
+use native.Mathlib.Omega.{arith}
+use borrow.Author.Tests.{eq-eqb, ne_eqb}
+use lib.Dec.{eqb}
+use lib.ListN.{length, get_or, drop}
+use lib.Pow.{shr_le}
+use Rattle.policy.specs.Policy.{Attr, no_attr, bits_for, width}
+use Rattle.policy.specs.Rules.{attr_at, attrs_of}
+use Rattle.formulas.specs.Value.{attr_of, part_of}
+use Rattle.formulas.specs.Parts.{Filling}
+use Rattle.formulas.proofs.TableLaws.{fill_start, fill-next, fill_end, none-part, none-size, none-past, later-past, part_at, left_at, size-at}
+use borrow.Author.Rules.{rules}
+use Rattle.formulas.proofs.table.fill.Goals as goal
+
+-- the attributes' parts of w for the holder h, and of v for the one before it
+abbrev values-by : List Attr → ℕ → ℕ → ℕ → ℕ → ℕ → ℕ
+values-by l h v w i p = part_of l p (cond (eqb i h) w v)
+
+abbrev sizes-by : List Attr → ℕ → ℕ → ℕ
+sizes-by l i p = (attr_of l p).size
+
+pub loop-k-init : goal.loop-k-init
+loop-k-init c =
+    let a = c.args in
+    let l = attrs_of a.t5 in
+    let r : length a.t5.kinds ≡ 8 = search rules in
+    let s : length a.t5.sizes ≡ 8 = search rules in
+    let n : length a.t5.lists ≡ 8 = search rules in
+    let e : c.byte_of-k.result ≡ min a.t5.count 8 = c.byte_of-k.ensures in
+    let none : (p : ℕ) → c.byte_of-k.result ≤ p → attr_of l p ≡ no_attr = λ p m. none-past a.t5 p (omega (arith, r)) (omega (arith, s)) (omega (arith, n)) (omega (arith, e)) in
+    let zero : width (drop c.byte_of-k.result l) ≡ 0 = later-past a.t5 c.byte_of-k.result none in (
+      search rules,
+      search rules,
+      search rules,
+      search rules,
+      search rules,
+      sym (ap (λ (z : ℕ). a.v / 2 ^ z) zero ∙ omega arith),
+      sym (ap (λ (z : ℕ). a.w / 2 ^ z) zero ∙ omega arith),
+      fill_start (values-by l a.h a.v a.w) a.g a.h a.values.now c.byte_of-k.result (λ i p m n. none-part l (cond (eqb i a.h) a.w a.v) p (none p m)),
+      fill_start (sizes-by l) a.g a.h a.sizes.now c.byte_of-k.result (λ i p m n. none-size l p (none p m)),
+    )
+
+pub last-requires : goal.last-requires
+last-requires c = (search rules, omega (arith, c.bits_of-bits.ensures 0))
+
+pub last-requires-in-loop-k : goal.last-requires-in-loop-k
+last-requires-in-loop-k c = (search rules, omega (arith, c.bits_of-bits.ensures 0))
+
+pub overflow_shr-x : goal.overflow_shr-x
+overflow_shr-x c = omega (arith, c.bits_of-bits.ensures 0)
+
+pub overflow_shr-y : goal.overflow_shr-y
+overflow_shr-y c = omega (arith, c.bits_of-bits.ensures 0)
+
+pub loop-k-preserved : goal.loop-k-preserved
+unfolding attr_at
+loop-k-preserved c =
+    let t = c.loop-k in
+    let a = c.args in
+    let k = t.k - 1 in
+    let l = attrs_of a.t5 in
+    let e : t.k ≡ k + 1 = omega arith in
+    let low : k < a.t5.count = omega arith in
+    let bits : c.bits_of-bits.result ≡ min (bits_for (attr_at a.t5 k)) 8 = let f = c.bits_of-bits.ensures (get_or a.t5.lists k 0) in cc in
+    let left-x : t.x ≡ a.v / 2 ^ width (drop (k + 1) l) = t.invariant.5 ∙ ap (λ (n : ℕ). a.v / 2 ^ width (drop n l)) e in
+    let left-y : t.y ≡ a.w / 2 ^ width (drop (k + 1) l) = t.invariant.6 ∙ ap (λ (n : ℕ). a.w / 2 ^ width (drop n l)) e in
+    let size : c.byte_at-size.result ≡ (attr_of l k).size = c.byte_at-size.ensures ∙ size-at a.t5 k low in (
+      search rules,
+      search rules,
+      search rules,
+      omega (arith, shr_le t.x c.bits_of-bits.result),
+      omega (arith, shr_le t.y c.bits_of-bits.result),
+      left_at a.t5 a.v k t.x c.bits_of-bits.result low left-x t.invariant.3 bits,
+      left_at a.t5 a.w k t.y c.bits_of-bits.result low left-y t.invariant.4 bits,
+      fill-next (values-by l a.h a.v a.w) a.g a.h _ t.k k c.last.result c.last-in-loop-k.result _ _ c.requires.1 c.requires.0 t.invariant.7 e (omega arith)
+          (λ n. c.last.ensures ∙ part_at a.t5 a.v k t.x c.bits_of-bits.result low left-x t.invariant.3 bits
+          ∙ ap (λ (z : Bool). part_of l k (cond z a.w a.v)) (sym (ne_eqb a.g a.h n)))
+          (c.last-in-loop-k.ensures ∙ part_at a.t5 a.w k t.y c.bits_of-bits.result low left-y t.invariant.4 bits
+          ∙ ap (λ (z : Bool). part_of l k (cond z a.w a.v)) (sym (eq-eqb a.h a.h refl)))
+          c.place.ensures,
+      fill-next (sizes-by l) a.g a.h _ t.k k c.byte_at-size.result c.byte_at-size.result _ _ c.requires.1 c.requires.0 t.invariant.8 e (omega arith) (λ n. size) size c.place-in-loop-k.ensures,
+    )
+
+pub returns : goal.returns
+returns c =
+    let a = c.args in
+    let t = c.loop-k in
+    let l = attrs_of a.t5 in record { filling = fill_end (values-by l a.h a.v a.w) a.g a.h _ t.k _ t.invariant.7 (omega arith); filling_2 = fill_end (sizes-by l) a.g a.h _ t.k _ t.invariant.8 (omega arith) }

@@ -1,0 +1,71 @@
+-- `hits::find_hit` meets its contract. The loop's invariant: there is no hit at the places below i, and the formula stays worked out. The measure is what is
+-- left of the places.
+use mathlib.Core.Path.{◌≡◌, refl, ap, ◌∙◌}
+use mathlib.Core.Bool.{Bool}
+use Prim.Native.Nat.{ℕ, ◌-◌, ◌≤◌, ◌<◌}
+use native.Mathlib.Omega.{arith}
+use borrow.Author.Count.{below_more}
+use lib.ListN.{length, get_or}
+use Rattle.lanes.specs.Lanes.{lane_of}
+use Rattle.lanes.proofs.Laws.{lowest-lanes}
+use Rattle.runs.specs.Model.{Model}
+use Rattle.allowed_rows.specs.Asked.{AccessReady}
+use Rattle.allowed_rows.specs.Basis.{model_by}
+use Rattle.hits.proofs.Laws.{hit_on, hit_few, hit-here, hit-nowhere}
+use borrow.Author.Rules.{rules}
+use Rattle.hits.proofs.find_hit.Goals as goal
+
+-- the first session value that has the permission on the value at place i
+module _ (t : tie.After-lowest invariant-loop decreases-loop) where
+  abbrev start : tie.Start invariant-loop decreases-loop
+  start = t.before.before.before.before.before.before.before.before.before.before.before.before.before.before.before.before
+
+  abbrev model : Model
+  model = model_by start.args.basis start.args.nodes.now
+
+  abbrev among : ℕ → Bool
+  among = lane_of t.before.before.before.before.before.before.before.before.before.before.before.and.result
+
+  abbrev value : ℕ
+  value = get_or t.before.before.before.before.before.before.before.before.before.before.order-of.result t.before.before.before.before.before.before.before.before.loop.i 0
+
+  lowest-is : t.lowest.result ≡ hit_on model start.args.permission among value
+  lowest-is =
+      let r = t.before.before.before.accessors in
+      t.lowest.ensures ∙ lowest-lanes _ r.result r.ensures.0 ∙ ap (hit_on model start.args.permission among) t.before.before.before.before.before.byte_at.ensures
+
+  lowest-off : 256 ≤ t.lowest.result → hit_on model start.args.permission among value ≡ 256
+  lowest-off h = omega (arith, lowest-is, hit_few model start.args.permission among value)
+
+pub loop-i-init : goal.loop-i-init
+loop-i-init c = (search rules, search rules, refl, c.requires.permission_lt_permissions.1, λ k h. absurd (omega arith))
+
+pub slice_bounds-byte_at-end : goal.slice_bounds-byte_at-end
+slice_bounds-byte_at-end c = c.loop-i.invariant.1
+
+pub accessors-requires : goal.accessors-requires
+accessors-requires c = (c.requires.permission_lt_permissions.0, c.loop-i.invariant.3)
+
+pub shape_of-area-then-value-lt256 : goal.shape_of-area-then-value-lt256
+shape_of-area-then-value-lt256 c =
+    let l = c.loop-i in
+    c.accessors.ensures.area_len_unchanged ∙ l.invariant.2
+
+pub returns-then-value-lt256 : goal.returns-then-value-lt256
+returns-then-value-lt256 c =
+    let l = c.loop-i in let both = hit-here (model c) c.args.permission c.args.q c.args.who c.args.basis.sessions _ c.requires.in_lists.sessions c.and-asked.ensures
+    _ c.order_of-order.ensures _ l.i c.few-i-end.ensures l.invariant.4 _ c.loop-i-test.true c.if-value-lt256.true (lowest-is c) in record { place_value = both.0; value_value = both.1 }
+
+pub loop-i-preserved : goal.loop-i-preserved
+loop-i-preserved c =
+    let l = c.loop-i in
+    let r = c.accessors in
+    (search rules, l.invariant.1, r.ensures.area_len_unchanged ∙ l.invariant.2, r.ensures.access_ready, below_more _ _ l.invariant.4 (lowest-off c c.if-value-lt256.false))
+
+pub shape_of-area : goal.shape_of-area
+shape_of-area c = c.loop-i.invariant.2
+
+pub returns : goal.returns
+returns c =
+    let l = c.loop-i in let both = hit-nowhere (model_by c.args.basis c.args.nodes.now) c.args.permission c.args.q c.args.who c.args.basis.sessions _ c.requires.in_lists.sessions c.and-asked.ensures
+    _ c.order_of-order.ensures _ l.i c.few-i-end.ensures l.invariant.4 (omega arith) in record { place_value = both.0; value_value = both.1 }

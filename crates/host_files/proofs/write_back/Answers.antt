@@ -1,0 +1,34 @@
+-- `host_files::write_back` meets its contract: a refused file gives its number; rules are written as `write_rules` says.
+use mathlib.Core.Path.{◌≡◌, sym, ap, ◌∙◌}
+use lib.ListN.{length}
+use borrow.Author.Rules.{rules}
+use Rattle.format.specs.File.{Bytes}
+use Rattle.policy.specs.Rules.{policy_of}
+use Rattle.rules.specs.Answers.{Answer, reading, writing, filled}
+use Rattle.rules.proofs.Laws.{was-accepted, was-refused}
+use Rattle.host_files.specs.Numbers.{rewritten, write_number, write_length}
+use Rattle.host_files.proofs.Laws.{refused-number, length-number}
+use Rattle.host_files.proofs.write_back.Goals as goal
+
+-- what is rewritten is what the rules that were read are written as
+again : (c : tie.After-write-rules) → rewritten (reading c.before.before.before.before.before.before.before.args.file.now) ≡ writing (policy_of c.before.before.before.before.read-rules.result.rules)
+unfolding rewritten
+again c = ap rewritten (was-accepted _ _ _ c.before.before.before.before.read-rules.ensures.0 c.before.before.enum_told.given.1)
+
+pub returns-in-Refused : goal.returns-in-Refused
+unfolding rewritten write_number write_length filled
+returns-in-Refused c =
+    let a = c.args in
+    let e = was-refused a.file.now _ _ c.read_rules-p.ensures.rules_value _ c.in-Refused.is in record { value = sym (ap (λ (x : Answer). write_number (rewritten x) (length a.out.now)) e); size_after = sym (ap (λ (x : Answer). write_length (rewritten x) (length a.out.now)) e); out_after = sym (ap (λ (x : Answer). filled (rewritten x) a.out.now) e) }
+
+pub returns-in-Refused-w : goal.returns-in-Refused-w
+returns-in-Refused-w c =
+    let a = c.args in
+    let e = again k in
+    let (m, l) = refused-number _ (length a.out.now) _ (sym c.write_rules-w.ensures.value ∙ c.in-Refused-w.is) in record { value = sym (ap (λ (x : Bytes). write_number x (length a.out.now)) e ∙ m); size_after = sym (ap (λ (x : Bytes). write_length x (length a.out.now)) e ∙ l); out_after = c.write_rules-w.ensures.out_after ∙ sym (ap (λ (x : Bytes). filled x a.out.now) e) }
+
+pub returns-in-Length : goal.returns-in-Length
+returns-in-Length c =
+    let a = c.args in
+    let e = again k in
+    let (m, l) = length-number _ (length a.out.now) _ (sym c.write_rules-w.ensures.value ∙ c.in-Length.is) in record { value = sym (ap (λ (x : Bytes). write_number x (length a.out.now)) e ∙ m); size_after = sym (ap (λ (x : Bytes). write_length x (length a.out.now)) e ∙ l); out_after = c.write_rules-w.ensures.out_after ∙ sym (ap (λ (x : Bytes). filled x a.out.now) e) }

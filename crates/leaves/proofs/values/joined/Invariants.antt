@@ -1,0 +1,22 @@
+-- `leaves::values::joined` meets its contract. The loop's invariant: the lanes whose value is below k and of which the comparison holds. The measure is the number
+-- of values left.
+use mathlib.Core.Path.{◌≡◌, sym, subst}
+use mathlib.Core.Bool.{Bool, ◌&&◌}
+use Prim.Native.Nat.{ℕ, ◌*◌, ◌-◌, ◌/◌, ◌%◌, ◌^◌, ◌≤◌}
+use native.Mathlib.Omega.{arith}
+use lib.Dec.{ltb}
+use lib.Pow.{pow_mono}
+use Rattle.lanes.specs.Lanes.{Lanes}
+use Rattle.sides.specs.declared.Side.{Side}
+use Rattle.sides.proofs.Fields.{one_shl}
+use Rattle.leaves.specs.Values.{Hot, sided}
+use Rattle.leaves.proofs.Joins.{join-start, join_more, join-end}
+use borrow.Author.Rules.{rules}
+use Rattle.leaves.proofs.values.joined.Given as goal
+
+abbrev pub invariant-loop-k : goal.invariant-loop-k
+invariant-loop-k l =
+    (l.k ≤ l.count) × (l.count ≤ 16) × Hot (field l.x) l.count l.hot × Lanes (λ v. ltb (field l.x v) l.k && sided l.second l.op (field l.x v) l.x.size l.y l.n) l.r
+
+abbrev pub decreases-loop-k : goal.decreases-loop-k
+decreases-loop-k l = l.count - l.k

@@ -1,0 +1,6 @@
+-- `leaves::values::otherwise` meets its contract.
+use borrow.Author.Rules.{rules}
+use Rattle.leaves.proofs.values.otherwise.Goals as goal
+
+pub compare_all-requires : goal.compare_all-requires
+compare_all-requires c = c.on_sets.ensures c.if-on_sets.true

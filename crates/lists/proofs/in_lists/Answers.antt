@@ -1,0 +1,74 @@
+-- `lists::in_lists` meets its contract. The loop's invariant: v is in the lists, whatever their numbers, when what is left of it is in
+-- those of the attributes from k on, and left is the width of these. The measure is what is left of the count.
+use mathlib.Core.Path.{◌≡◌, refl, sym, ap, ◌∙◌}
+use mathlib.Core.List.{[]}
+use Prim.Native.Nat.{◌+◌, ◌-◌, ◌/◌, ◌^◌, ◌≤◌}
+use native.Mathlib.Omega.{arith}
+use borrow.Author.Rules.{rules}
+use borrow.Author.Tests.{not-true, not-false}
+use lib.ListN.{drop}
+use Rattle.format.specs.Format.{within}
+use Rattle.policy.specs.Policy.{bits_for, codes, width}
+use Rattle.policy.specs.Rules.{attr_at, attrs_of}
+use Rattle.policy.proofs.Laws.{without_lists, width-any}
+use Rattle.lists.specs.Lists.{in_lists}
+use Rattle.lists.proofs.Laws.{later-width, in-none, in_rest, in-not, in-any}
+use Rattle.lists.proofs.in_lists.Goals as goal
+
+-- the bits of the attribute at hand, and of those after it
+bits_at : (c : tie.After-bits-for invariant-loop decreases-loop) → c.bits-for.result ≡ bits_for (attr_at (without_lists c.before.before.before.before.before.before.before.before.before.before.before.args.class) c.before.before.before.before.before.before.loop.k)
+unfolding attr_at
+bits_at c = let f = c.bits-for.ensures 0 in cc
+
+left_at : (c : tie.After-bits-for invariant-loop decreases-loop) →
+    c.before.before.before.before.before.before.loop.left ≡ c.bits-for.result + width (drop (c.before.before.before.before.before.before.loop.k + 1) (attrs_of (without_lists c.before.before.before.before.before.before.before.before.before.before.before.args.class)))
+left_at c =
+    let t = c.before.before.before.before.before.before.loop in
+    omega (arith, bits_at c, later-width (without_lists c.before.before.before.before.before.before.before.before.before.before.before.args.class) t.k (omega arith))
+
+-- whether its code stands for a value
+code_at : (c : tie.After-code-ok invariant-loop decreases-loop) →
+    c.code_ok.result
+    ≡ within 0 (codes (attr_at (without_lists c.before.before.before.before.before.before.before.before.before.before.before.before.before.args.class) c.before.before.before.before.before.before.before.before.loop.k)) (c.before.before.before.before.before.before.before.before.loop.rest / 2 ^ (c.before.before.before.before.before.before.before.before.loop.left - c.before.before.bits-for.result))
+unfolding attr_at
+code_at c = let f = c.code_ok.ensures 0 in cc
+
+pub loop-k-init : goal.loop-k-init
+loop-k-init c = (search rules, search rules, c.class_width-left.ensures.value ∙ sym (width-any c.args.class), refl)
+
+pub overflow_sub-left : goal.overflow_sub-left
+overflow_sub-left c = omega (arith, left_at c)
+
+pub returns-then-not-code_ok : goal.returns-then-not-code_ok
+returns-then-not-code_ok c =
+    let t = c.loop-k in
+    let a = c.args in
+    let d = without_lists a.class in
+    let b = c.bits_for.result in
+    sym
+    (t.invariant.3
+    ∙ in-not d t.k t.rest (t.left - b) (omega arith) (omega (arith, left_at c))
+    (sym (code_at c) ∙ not-true c.code_ok.result c.if-not-code_ok.true))
+    ∙ in-any a.class a.v
+
+pub loop-k-preserved : goal.loop-k-preserved
+loop-k-preserved c =
+    let t = c.loop-k in
+    let a = c.args in
+    let d = without_lists a.class in
+    let b = c.bits_for.result in
+    let w : t.left - b ≡ width (drop (t.k + 1) (attrs_of d)) = omega (arith, left_at c) in (
+      search rules,
+      search rules,
+      w,
+      t.invariant.3
+          ∙ in_rest d t.k t.rest (t.left - b) (omega arith) w
+          (sym (code_at c) ∙ not-false c.code_ok.result c.if-not-code_ok.false)
+          ∙ ap (in_lists (drop (t.k + 1) (attrs_of d))) (sym c.low_bits-rest.ensures),
+    )
+
+pub returns : goal.returns
+returns c =
+    let t = c.loop-k in
+    let a = c.args in
+    sym (t.invariant.3 ∙ in-none (without_lists a.class) t.k t.rest (omega arith)) ∙ in-any a.class a.v

@@ -1,0 +1,18 @@
+-- `planes::operand::order` meets its contract. The loop's invariant: what stands left of bit k is below, and is the same. The measure is k.
+use mathlib.Core.Path.{◌≡◌, sym, ap, ap₂, ◌∙◌}
+use Prim.Native.Nat.{ℕ, ◌+◌, ◌-◌, ◌/◌, ◌^◌, ◌≤◌}
+use native.Mathlib.Omega.{arith}
+use lib.Dec.{ltb, eqb}
+use Rattle.planes.specs.Word.{Told, number_in}
+use Rattle.planes.proofs.Numbers.{number-high}
+use Rattle.planes.proofs.Words.{told-as, told-whole}
+use Rattle.planes.proofs.Turns.{below-turn, same_turn}
+use borrow.Author.Rules.{rules}
+use Rattle.planes.proofs.operand.order.Given as goal
+
+abbrev pub invariant-loop-k : goal.invariant-loop-k
+invariant-loop-k l =
+    (l.k ≤ l.initial.k) × Told l.planes (λ v. ltb (number_in l.x v / 2 ^ l.k) (number_in l.y v / 2 ^ l.k)) l.below × Told l.planes (λ v. eqb (number_in l.x v / 2 ^ l.k) (number_in l.y v / 2 ^ l.k)) l.same
+
+abbrev pub decreases-loop-k : goal.decreases-loop-k
+decreases-loop-k l = l.k

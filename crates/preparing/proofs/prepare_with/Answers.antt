@@ -1,0 +1,59 @@
+-- `preparing::prepare_with` meets its contract: row 0 has no bit, the tables are filled in, the nodes that depend on neither holder are worked out, and
+-- the steps of the others are listed.
+use mathlib.Core.Path.{◌∙◌}
+use Prim.Native.Nat.{◌+◌, ◌*◌, ◌≤◌}
+use native.Mathlib.Omega.{arith}
+use lib.ListN.{length}
+use Rattle.policy.specs.Rules.{lists_of}
+use Rattle.preparing.proofs.Whole.{room_fits, stored-none, prepared-of}
+use borrow.Author.Rules.{rules}
+use Rattle.preparing.proofs.prepare_with.Goals as goal
+
+-- the room of the tables
+fits : (c : tie.After-larger)
+    → (c.larger.result ≤ 256) × (4 * (193 + 64 * c.larger.result) ≤ length c.before.before.before.before.before.before.before.before.before.args.area.now)
+fits c =
+    let y = c.before in
+    let x = y.before in
+    let w = x.before.before.before.before.before.before.before.requires.1.1.0 in
+    let p = x.room_of.ensures in
+    let q = y.room-of2.ensures in
+    room_fits _ _ _ _ c.larger.result _ p.0 q.0 p.1.1 q.1.1 w.0 w.1 c.larger.ensures.1
+
+pub fill_tables-requires : goal.fill_tables-requires
+fill_tables-requires c =
+    let w = fits g in
+    let l = c.larger-room.ensures.lower_bound in record { n_bound = (omega (arith, c.requires), omega (arith, c.requires), omega (arith, c.requires), omega (arith, c.requires)); room_nonzero = (omega (arith, l, c.room_of-rows.ensures.result_nonzero), w.0, l.0, l.1, omega (arith, w, c.store.ensures.area_len_unchanged)); rows_value = (c.room_of-rows.ensures.value, c.room_of-outers.ensures.value) }
+
+pub outer_rows-requires : goal.outer_rows-requires
+outer_rows-requires c =
+    let w = fits g in record { n_bound = (omega (arith, c.requires), omega (arith, c.requires), omega (arith, c.requires), omega (arith, c.requires)); room_nonzero = (omega (arith, c.larger-room.ensures.lower_bound, c.room_of-rows.ensures.result_nonzero), w.0, omega (arith, w, c.store.ensures.area_len_unchanged, c.fill_tables.ensures.area_len_unchanged)) }
+
+pub lists-m-requires : goal.lists-m-requires
+lists-m-requires c =
+    (
+      omega (arith, c.requires),
+      omega (arith, c.requires),
+      omega (arith, c.requires),
+      omega (arith, c.requires),
+      (fits g).0,
+      omega (arith, c.requires, c.outer_rows.ensures.steps_len_unchanged),
+    )
+
+pub returns : goal.returns
+returns c =
+    let a = c.args in
+    let m = c.lists-m in
+    let o = c.outer_rows in
+    let t = c.fill_tables in
+    let e = c.store in
+    let y = c.room_of-outers in
+    let x = c.room_of-rows in
+    let l = c.larger-room.ensures.lower_bound in
+    let w = fits g in
+    let d = c.requires.UNKNOWN.1.1.1 in record { prepared = prepared-of (lists_of a.classes) a.nodes.now a.f a.lane a.row a.outer a.n c.larger-room.result x.result y.result
+          a.onlane.now a.onrow.now a.onouter.now c.requires.fact d.0 d.1.0 d.1.1 c.requires.n_bound.0 w.0
+          x.ensures.value y.ensures.value x.ensures.result_nonzero.0 y.ensures.result_nonzero.0 l.0 l.1 e.new.area t.new.area o.new.area _
+          (stored-none _ _ _ c.none.ensures e.ensures.rows) t.ensures.tables o.ensures.worked
+          m.result.across m.result.board m.result.row m.ensures.three_lists
+          (omega (arith, m.ensures.steps_len_unchanged, o.ensures.steps_len_unchanged, c.requires)) (omega (arith, w, e.ensures.area_len_unchanged, t.ensures.area_len_unchanged, o.ensures.area_len_unchanged)); steps_len_unchanged = m.ensures.steps_len_unchanged ∙ o.ensures.steps_len_unchanged; area_len_unchanged = o.ensures.area_len_unchanged ∙ t.ensures.area_len_unchanged ∙ e.ensures.area_len_unchanged }

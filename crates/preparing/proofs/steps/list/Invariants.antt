@@ -1,0 +1,19 @@
+-- `preparing::steps::list` meets its contract. Each turn adds the step of one node more, where it is chosen; places before the first stay.
+use mathlib.Core.Path.{◌≡◌, refl, ap, ◌∙◌, subst}
+use mathlib.Core.Bool.{Bool, false}
+use mathlib.Core.List.{List}
+use Prim.Native.Nat.{ℕ, ◌+◌, ◌*◌, ◌-◌, ◌≤◌, ◌<◌}
+use native.Mathlib.Omega.{arith}
+use lib.ListN.{length, get_or}
+use Rattle.prepared.specs.Level.{node_step, same_as, Listed}
+use Rattle.prepared.proofs.Lists.{listed_start, listed_more, listed-few, added-long, added-below}
+use borrow.Author.Rules.{rules}
+use Rattle.preparing.proofs.steps.list.Given as goal
+
+abbrev pub invariant-loop-k : goal.invariant-loop-k
+invariant-loop-k l =
+    (l.k ≤ l.n) × (l.m ≤ l.k) × (length l.steps ≡ length l.initial.steps)
+    × Done l.nodes l.f l.flags l.wanted l.differ l.indexed l.bases l.own l.from l.k l.first l.m l.steps × ((j : ℕ) → j < l.first → get_or l.steps j 0 ≡ get_or l.initial.steps j 0)
+
+abbrev pub decreases-loop-k : goal.decreases-loop-k
+decreases-loop-k l = l.n - l.k

@@ -1,0 +1,59 @@
+-- `replay::replay` meets its contract: each return is told by how far it came.
+use mathlib.Core.Path.{◌≡◌, ap}
+use mathlib.Core.Bool.{true}
+use Rattle.policy.specs.Rules.{policy_of}
+use Rattle.rules.specs.Answers.{reading, rules}
+use Rattle.rules.proofs.Laws.{was-accepted, was-refused}
+use Rattle.live.specs.Lent.{refusal_of}
+use Rattle.live.proofs.Laws.{held, denied}
+use Rattle.replay.specs.Question.{asks}
+use Rattle.replay.proofs.Laws.{leaving, rows-fewer, rows-every, replay-unread, replay-unasked, replay-unstarted, replay-stopped, replay-shown, replay-missed}
+use borrow.Author.Rules.{rules}
+use Rattle.replay.proofs.replay.Goals as goal
+
+-- the rules were read
+read : (c : tie.After-enum-told) → reading c.before.before.before.before.before.before.before.before.before.args.file.now ≡ rules (policy_of c.before.before.before.read-rules.result.rules)
+read c =
+    let q = c.before.before.before.read-rules in
+    was-accepted c.before.before.before.before.before.before.before.before.before.args.file.now q.result.answer (policy_of q.result.rules) q.ensures.0 c.enum_told.given.1
+
+-- something is asked
+asking : (c : tie.Else1) → asks (policy_of c.before.before.before.before.before.read-rules.result.rules) c.before.before.before.before.before.before.before.before.before.before.before.args.question.now ≡ true
+asking c = held c.before.asks.ensures c.if1.left
+
+pub returns-in-Refused : goal.returns-in-Refused
+returns-in-Refused c =
+    let q = c.read_rules-parsed in
+    let a = c.args in let both = leaving
+    (replay-unread a.question.now a.rows.now a.sessions.now a.items.now
+    (was-refused a.file.now q.result.answer (policy_of q.result.rules) q.ensures.rules_value _ c.in-Refused.is)) in record { result_value = both.0; sessions_after = both.1.0; after = both.1.1 }
+
+pub returns-then-not-asks : goal.returns-then-not-asks
+returns-then-not-asks c =
+    let a = c.args in let both = leaving
+    (replay-unasked a.question.now a.rows.now a.sessions.now a.items.now _ (read t) (denied c.asks.ensures c.if-not-asks.taken)) in record { result_value = both.0; sessions_after = both.1.0; after = both.1.1 }
+
+pub returns-in-Refused-outcome : goal.returns-in-Refused-outcome
+returns-in-Refused-outcome c =
+    let a = c.args in let both = leaving
+    (replay-unstarted a.question.now a.rows.now a.sessions.now a.items.now _ (read t) (asking n) c.start_with-begun.ensures (ap refusal_of c.in-Refused-outcome.is)) in record { result_value = both.0; sessions_after = both.1.0; after = both.1.1 }
+
+pub returns-then-ran-rows : goal.returns-then-ran-rows
+returns-then-ran-rows c =
+    let a = c.args in let both = leaving
+    (replay-stopped a.question.now a.rows.now a.sessions.now a.items.now _ (read t) (asking n)
+    c.start_with-begun.ensures (ap refusal_of c.in-Done.is) c.steps_at-ran.ensures (rows-fewer _ _ _ a.rows.now c.steps_at-ran.ensures c.if-ran-rows.taken).1) in record { result_value = both.0; sessions_after = both.1.0; after = both.1.1 }
+
+pub returns-then-last_fits : goal.returns-then-last_fits
+returns-then-last_fits c =
+    let a = c.args in let both = leaving
+    (replay-shown a.question.now a.rows.now a.sessions.now a.items.now _ (read t) (asking n)
+    c.start_with-begun.ensures (ap refusal_of c.in-Done.is) c.steps_at-ran.ensures (rows-every _ _ _ a.rows.now c.steps_at-ran.ensures c.if-ran-rows.left)
+    (c.last_fits.ensures _) c.of.ensures c.if-last_fits.taken) in record { result_value = both.0; sessions_after = both.1.0; after = both.1.1 }
+
+pub returns-else-last_fits : goal.returns-else-last_fits
+returns-else-last_fits c =
+    let a = c.args in let both = leaving
+    (replay-missed a.question.now a.rows.now a.sessions.now a.items.now _ (read t) (asking n)
+    c.start_with-begun.ensures (ap refusal_of c.in-Done.is) c.steps_at-ran.ensures (rows-every _ _ _ a.rows.now c.steps_at-ran.ensures c.if-ran-rows.left)
+    (c.last_fits.ensures _) c.of.ensures c.if-last_fits.left) in record { result_value = both.0; sessions_after = both.1.0; after = both.1.1 }

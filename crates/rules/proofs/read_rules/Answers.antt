@@ -1,0 +1,36 @@
+-- `rules::read_rules` meets its contract: the parts, the filling bits and the end are the file's format (chain-file), and its last cursor
+-- tells the answer and the count. Assumes nothing.
+use mathlib.Core.Path.{◌≡◌, refl, sym, ap, ◌∙◌}
+use native.Mathlib.Omega.{arith}
+use Rattle.format.specs.File.{read_file}
+use Rattle.format.specs.Steps.{res_of, judged, CountIsPlace}
+use Rattle.format.specs.declared.Cursor.{Cursor}
+use Rattle.format.proofs.Chain.{from-good, chain-file, res-field}
+use Rattle.format.proofs.Fault.{judged-count}
+use Rattle.policy.specs.File.{policy_format}
+use Rattle.policy.specs.Rules.{policy_of}
+use Rattle.rules.specs.Answers.{answer_of, beside}
+use Rattle.rules.proofs.Laws.{ends-refused, ends_read, ends-bits}
+use borrow.Author.Rules.{rules}
+use Rattle.rules.proofs.read_rules.Goals as goal
+
+-- what the last cursor stands for is what the file reads as
+ended : (c : tie.After-judged) → res_of c.judged.result (policy_of c.before.before.before.before.before.before.read-policy.result.rules) ≡ read_file policy_format c.before.before.before.before.before.before.before.before.args.file.now
+ended c =
+    let p = c.before.before.before.before.before.before in
+    let s = p.before.before.args.file.now in
+    ap (λ (x : Cursor). res_of x (policy_of p.read-policy.result.rules)) c.judged.ensures
+    ∙ chain-file policy_format s _ _ _ _ _ _ refl refl (p.read-policy.ensures.0 ∙ sym (from-good record { number = 0; pos = 0; taken = 0 } _ refl))
+    (res-field _ _ 3 s _ _ (omega arith) c.before.before.before.read-field.ensures.0) c.before.at-end.ensures
+
+-- and as many bits were taken as stand before it
+counted : (c : tie.After-judged) → CountIsPlace c.before.before.before.before.before.before.before.before.args.file.now c.judged.result
+counted c = judged-count _ _ c.judged.ensures c.before.before.before.read-field.ensures.1.1
+
+pub returns-then-end-ne0 : goal.returns-then-end-ne0
+unfolding answer_of beside
+returns-then-end-ne0 c = record { rules_value = sym (ends-refused _ _ _ (ended k) (omega arith)); rules_value_2 = c.no_rules-none.ensures; bits_value = ends-bits _ _ _ (ended k) (counted k) }
+
+pub returns : goal.returns
+unfolding answer_of beside
+returns c = record { rules_value = sym (ends_read _ _ _ (ended k) c.if-end-ne0.false); rules_value_2 = refl; bits_value = ends-bits _ _ _ (ended k) (counted k) }

@@ -1,0 +1,7 @@
+-- `search::all_found` meets its contract.
+use mathlib.Core.Path.{refl}
+use borrow.Author.Rules.{rules}
+use Rattle.search.proofs.queue.all_found.Goals as goal
+
+pub returns : goal.returns
+returns c = simp (c.part-from.ensures, c.part-via.ensures, c.part-depth.ensures, c.part-place.ensures) refl

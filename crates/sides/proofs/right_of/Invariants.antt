@@ -1,0 +1,17 @@
+-- `sides::right_of` meets its contract. The loop's invariant: right is the width of the attributes from j on. The measure is j.
+use mathlib.Core.Path.{◌≡◌, sym, ap, ◌∙◌}
+use Prim.Native.Nat.{ℕ, ◌+◌, ◌*◌, ◌-◌, ◌≤◌}
+use native.Mathlib.Omega.{arith}
+use lib.ListN.{get_or, drop}
+use Rattle.policy.specs.Policy.{bits_for, width}
+use Rattle.policy.specs.Rules.{attr_at, attrs_of}
+use Rattle.formulas.proofs.TableLaws.{later-none, later_more}
+use borrow.Author.Rules.{rules}
+use Rattle.sides.proofs.right_of.Given as goal
+
+abbrev pub invariant-loop-j : goal.invariant-loop-j
+invariant-loop-j l =
+    (l.k + 1 ≤ l.j) × (l.j ≤ l.class.count) × (l.class.count ≤ 255) × (l.right ≤ 255 * (l.class.count - l.j)) × (l.right ≡ width (drop l.j (attrs_of l.class)))
+
+abbrev pub decreases-loop-j : goal.decreases-loop-j
+decreases-loop-j l = l.j

@@ -1,0 +1,16 @@
+-- `user_results::name_user` meets its contract. The loop's invariant: the values below v are named anew. The measure is what is left of the 256.
+use mathlib.Core.Path.{ap, ◌∙◌}
+use mathlib.Core.Bool.{Bool, ◌&&◌, ◌||◌, cond}
+use Prim.Native.Nat.{◌+◌, ◌-◌, ◌≤◌}
+use native.Mathlib.Omega.{arith}
+use lib.Dec.{eqb}
+use lib.ListN.{get_or}
+use Rattle.user_results.proofs.Laws.{Renamed, renamed-none, renamed-more, renamed-all}
+use borrow.Author.Rules.{rules}
+use Rattle.user_results.proofs.name_user.Given as goal
+
+abbrev pub invariant-loop-v : goal.invariant-loop-v
+invariant-loop-v l = (l.v ≤ 256) × Renamed l.initial.r l.seen l.u l.asked l.r l.v
+
+abbrev pub decreases-loop-v : goal.decreases-loop-v
+decreases-loop-v l = 256 - l.v

@@ -1,0 +1,13 @@
+-- `user_searches::first_with` meets its contract. The loop only has to stay within the users before u. The measure is what is left of them.
+use mathlib.Core.Path.{◌≡◌, refl, sym, ◌∙◌}
+use mathlib.Core.Logic.{inl, inr}
+use Prim.Native.Nat.{◌-◌, ◌≤◌}
+use native.Mathlib.Omega.{arith}
+use borrow.Author.Rules.{rules}
+use Rattle.user_searches.proofs.first_with.Given as goal
+
+abbrev pub invariant-loop-k : goal.invariant-loop-k
+invariant-loop-k l = l.k ≤ l.u
+
+abbrev pub decreases-loop-k : goal.decreases-loop-k
+decreases-loop-k l = l.u - l.k

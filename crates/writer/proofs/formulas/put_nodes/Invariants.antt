@@ -1,0 +1,21 @@
+-- `writer::formulas::put_nodes` meets its contract. The loop's invariant: the first i nodes are stored, in no more than 20 bits each, and the
+-- bytes are as many as before. The measure is how many nodes are left.
+use mathlib.Core.Path.{◌≡◌, refl}
+use Prim.Native.Nat.{◌+◌, ◌*◌, ◌-◌, ◌≤◌}
+use native.Mathlib.Omega.{arith}
+use lib.ListN.{length}
+use Rattle.format.specs.Format.{rows}
+use Rattle.format.specs.Steps.{Stores}
+use Rattle.format.proofs.Store.{stores-rows-begin, stores-rows-turn}
+use Rattle.policy.specs.File.{node_format}
+use Rattle.policy.specs.Rules.{lists_of, nodes_of}
+use Rattle.policy.proofs.Laws.{nodes-none, nodes-next, nodes-length}
+use Rattle.writer.proofs.formulas.put_nodes.Given as goal
+
+abbrev pub invariant-loop-i : goal.invariant-loop-i
+invariant-loop-i l =
+    (l.i ≤ l.i-end) × (length l.out ≡ length l.initial.out) × (l.p.pos ≤ l.initial.p.pos + 20 * l.i)
+    × Stores (rows l.i (λ l. node_format (lists_of l.classes) l.f (length l))) (nodes_of l.nodes l.f l.i) l.initial.out l.out l.initial.p l.p
+
+abbrev pub decreases-loop-i : goal.decreases-loop-i
+decreases-loop-i l = l.i-end - l.i

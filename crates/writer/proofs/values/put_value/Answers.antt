@@ -1,0 +1,62 @@
+-- `writer::values::put_value` meets its contract. The loop's invariant: whoever stores what is left by the attributes from i on has stored the
+-- whole value; `rest` is how wide those attributes are, each of the first i took no more than 255 bits, and the bytes are as many as before. It
+-- speaks of the attributes without their list numbers, which do not matter for values. The measure is how many attributes are left.
+use mathlib.Core.Path.{◌≡◌, refl, sym, ap, ◌∙◌}
+use mathlib.Core.List.{[]}
+use Prim.Native.Nat.{◌+◌, ◌*◌, ◌-◌, ◌≤◌}
+use borrow.Author.Rules.{rules}
+use native.Mathlib.Omega.{arith}
+use lib.ListN.{length}
+use Rattle.policy.specs.Policy.{Attr, width}
+use Rattle.policy.specs.Rules.{attr_at}
+use Rattle.policy.specs.declared.Class.{Class}
+use Rattle.policy.proofs.Laws.{without_lists, width-any, value-any}
+use Rattle.writer.proofs.Value.{attrs_from, from_all, from-width, Onward, onward-begin, onward-turn, onward-end}
+use Rattle.writer.proofs.values.put_value.Goals as goal
+
+-- the attribute that was looked up is attribute i
+attr :
+    (c : tie.After-byte-at2 invariant-loop decreases-loop)
+    → let l = c.before.before.before.before.before in
+    let class = without_lists l.before.before.before.before.before.args.class in
+    ◌≡◌ {A = Attr} (record { kind = c.before.before.byte_at.result; size = c.byte-at2.result; list = 0 }) (attr_at class l.loop.i)
+unfolding attr_at
+attr c = rw (c.before.before.byte_at.ensures, c.byte-at2.ensures)
+
+-- what is left is as wide as it and the attributes after it
+wide :
+    (c : tie.After-bits-for invariant-loop decreases-loop)
+    → let l = c.before.before.before.before.before.before in
+    let class = without_lists l.before.before.before.before.before.args.class in
+    l.loop.rest ≡ c.bits-for.result + width (attrs_from class (l.loop.i + 1))
+wide c =
+    let t = c.before.before.before.before.before in
+    let l = t.before in
+    let class = without_lists l.before.before.before.before.before.args.class in
+    omega (arith, c.bits-for.ensures 0, from-width class l.loop.i t.loop-test.true (attr c.before))
+
+pub loop-i-init : goal.loop-i-init
+loop-i-init c =
+    let class = c.args.class in
+    let bare = without_lists class in
+    (omega arith, refl, omega arith, c.requires.1 ∙ sym (width-any class) ∙ ap width (sym (from_all bare)), onward-begin bare)
+
+pub overflow_sub-rest : goal.overflow_sub-rest
+overflow_sub-rest c = omega (arith, wide c)
+
+pub loop-i-preserved : goal.loop-i-preserved
+loop-i-preserved c =
+    let class = without_lists c.args.class in (
+      omega arith,
+      omega arith,
+      omega arith,
+      omega (arith, wide m),
+      onward-turn class c.loop-i.i c.loop-i-test.true (attr c) (c.bits_for-w.ensures 0) (c.code_ok.ensures 0) (omega (arith, wide m))
+          c.high_bits-y.ensures c.low_bits-x.ensures c.loop-i.invariant.4 c.put_field-p.ensures.stores,
+    )
+
+pub returns : goal.returns
+returns c =
+    let l = c.loop-i in
+    let class = c.args.class in
+    let e : l.i ≡ class.count = omega arith in record { stores = rw (value-any class) at (onward-end (without_lists class) (rw e at l.invariant.4) c.put_field.ensures.stores); pos_bound = omega arith }

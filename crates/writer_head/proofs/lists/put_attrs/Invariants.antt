@@ -1,0 +1,23 @@
+-- `writer_head::lists::put_attrs` meets its contract. The loop's invariant: the first i attributes are stored, in no more than 12 bits each, the
+-- sizes of the lists are those after them, and the bytes and the sizes are as many as before. The measure is how many attributes are left.
+use mathlib.Core.Path.{◌≡◌, refl, sym}
+use Prim.Native.Nat.{◌+◌, ◌*◌, ◌-◌, ◌≤◌}
+use borrow.Author.Rules.{rules}
+use native.Mathlib.Omega.{arith}
+use lib.ListN.{length}
+use Rattle.format.specs.Format.{rows}
+use Rattle.format.specs.Steps.{Stores}
+use Rattle.format.proofs.Store.{stores-rows-begin, stores-rows-turn}
+use Rattle.policy.specs.File.{sizes_after, attr_format}
+use Rattle.policy.specs.Rules.{attr_at, attrs_of}
+use Rattle.policy.proofs.Laws.{cut, attrs-none, attrs-next, attrs-length, sizes-none, sizes-more}
+use Rattle.writer_head.proofs.lists.put_attrs.Given as goal
+
+abbrev pub invariant-loop-i : goal.invariant-loop-i
+invariant-loop-i l =
+    (l.i ≤ l.i-end) × (length l.out ≡ length l.initial.out) × (length l.known ≡ length l.initial.known) × (l.p.pos ≤ l.initial.p.pos + 12 * l.i)
+    × (l.known ≡ sizes_after l.initial.known (attrs_of record { count = l.i; l.kinds = l.kinds; l.sizes = l.sizes; l.lists = l.lists }))
+    × Stores (rows l.i (λ l. attr_format (sizes_after l.initial.known l))) (attrs_of record { count = l.i; l.kinds = l.kinds; l.sizes = l.sizes; l.lists = l.lists }) l.initial.out l.out l.initial.p l.p
+
+abbrev pub decreases-loop-i : goal.decreases-loop-i
+decreases-loop-i l = l.i-end - l.i

@@ -1,0 +1,32 @@
+-- `writer_head::put_counts` meets its contract: the head is its seven counts and the zero bits, each stored after the one before it.
+use native.Mathlib.Omega.{arith}
+use Rattle.format.proofs.Store.{stores-pair, stores-via, stores-zeros}
+use Rattle.policy.specs.File.{count, head_format}
+use Rattle.writer_head.specs.Parts.{head_of}
+use Rattle.writer_head.proofs.put_counts.Goals as goal
+
+pub put_range-f-requires : goal.put_range-f-requires
+put_range-f-requires c = omega (arith, c)
+
+pub put_range-g-requires : goal.put_range-g-requires
+put_range-g-requires c = omega (arith, c)
+
+pub put_field-requires : goal.put_field-requires
+put_field-requires c = omega (arith, c)
+
+pub shape_of-out : goal.shape_of-out
+shape_of-out c =
+    omega (arith, k, c)
+
+pub returns : goal.returns
+unfolding head_format count head_of
+returns c =
+    let h = c.args.h in record { stores = stores-via _ _ _ (head_of h)
+          (stores-zeros _ 7 3
+          (stores-pair _ _ c.put_range-a.ensures.stores
+          (stores-pair _ _ c.put_range-b.ensures.stores
+          (stores-pair _ _ c.put_range-c.ensures.stores
+          (stores-pair _ _ c.put_range-d.ensures.stores
+          (stores-pair _ _ c.put_range-e.ensures.stores
+          (stores-pair _ _ c.put_range-f.ensures.stores c.put_range-g.ensures.stores))))))
+          c.put_field.ensures.stores); pos_bound = omega (arith, k₄) }

@@ -10,4 +10,4 @@ pub returns : goal.returns
 returns c =
     let a = c.args in
     let n = c.byte_at-n in
-    subst (λ (m : ℕ). OneOfEach (lists_of a.t1.classes) (nodes_of a.nodes.now 3 m) 1 a.among c.one_of_each.result) n.ensures c.one_of_each.ensures
+    subst (λ (m : ℕ). OneOfEach (lists_of a.basis.classes) (nodes_of a.nodes.now 3 m) 1 a.among c.one_of_each.result) n.ensures c.one_of_each.ensures

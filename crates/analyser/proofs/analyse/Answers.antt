@@ -19,19 +19,19 @@ use borrow.Author.Rules.{rules}
 use Rattle.analyser.proofs.analyse.Goals as goal
 
 -- the rules were read, and an area is enough for them
-module _ (w : tie.After-widest) where
-  accepted : reading w.before.before.before.before.before.before.before.before.args.file.now ≡ rules (policy_of w.before.before.before.before.read-rules.result.rules)
+module _ (w : goal.After-widest-w) where
+  accepted : reading w.args.file.now ≡ rules (policy_of w.read_rules-parsed.result.rules)
   accepted =
-      let q = w.before.before.before.before.read-rules in
-      was-accepted w.before.before.before.before.before.before.before.before.args.file.now q.result.answer (policy_of q.result.rules) q.ensures.0 w.before.enum_told.given.1
+      let q = w.read_rules-parsed in
+      was-accepted w.args.file.now q.result.answer (policy_of q.result.rules) q.ensures.rules_value w.in-Accepted.is
 
-  sound : Sound (policy_of w.before.before.before.before.read-rules.result.rules)
+  sound : Sound (policy_of w.read_rules-parsed.result.rules)
   sound = file-sound _ _ accepted
 
-  enough : (n : ℕ) → w.widest.result ≤ n → (area : List ℕ) → 4 * (193 + 64 * 2 ^ n) ≤ length area
-      → (b : Basis) (steps : List ℕ) → BasisOf w.before.before.before.before.read-rules.result.rules b → 192 ≤ length steps → Scratch b steps area
+  enough : (n : ℕ) → w.widest-w.result ≤ n → (area : List ℕ) → 4 * (193 + 64 * 2 ^ n) ≤ length area
+      → (b : Basis) (steps : List ℕ) → BasisOf w.read_rules-parsed.result.rules b → 192 ≤ length steps → Scratch b steps area
   enough n narrow area large b steps B long =
-      let (u, s, i) = w.widest.ensures in
+      let (u, s, i) = w.widest-w.ensures in
       scratch-wide _ b steps area n B sound (omega (arith, u)) (omega (arith, s)) (omega (arith, i)) long large
 
 pub returns-in-Refused : goal.returns-in-Refused

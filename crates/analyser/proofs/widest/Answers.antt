@@ -6,12 +6,12 @@ use borrow.Author.Rules.{rules}
 use Rattle.analyser.proofs.widest.Goals as goal
 
 -- the wider of the first two
-wider : (t : tie.Joined1) → (t.before.before.before.class-width.result ≤ t.if1.m) × (t.before.before.class-width2.result ≤ t.if1.m)
+wider : (t : goal.Joined-u-s) → (t.class_width-u.result ≤ t.if-u-s.m) × (t.class_width-s.result ≤ t.if-u-s.m)
 wider t =
     ⊎_elim
     (λ z. (omega (arith, z.0.taken, z.1), omega (arith, z.0.taken, z.1)))
     (λ z. (omega (arith, z.0.left, z.1), omega (arith, z.0.left, z.1)))
-    t.if1.branch
+    t.if-u-s.branch
 
 pub returns-then-m-o : goal.returns-then-m-o
 returns-then-m-o c =

@@ -5,8 +5,8 @@ use Rattle.bits.proofs.Set.{size-le, shift-mask, mask-subset}
 use Rattle.bits.proofs.subset.Goals as goal
 
 -- no size is above 8
-sizes : (c : tie.After-size-of2) → (c.before.type_size.result ≤ 8) × (c.size-of2.result ≤ 8)
-sizes c = let a = c.before.before.args in (omega (arith, size-le a.n), omega (arith, size-le a.m))
+sizes : (c : goal.After-size_of-q) → (c.size_of-p.result ≤ 8) × (c.size_of-q.result ≤ 8)
+sizes c = let a = c.args in (omega (arith, size-le a.n), omega (arith, size-le a.m))
 
 pub overflow_sub-a : goal.overflow_sub-a
 overflow_sub-a c = omega (arith, sizes c)

@@ -11,23 +11,23 @@ use Rattle.decision.proofs.Decided.{place-shallow, decided-safe, decided-leak}
 use borrow.Author.Rules.{rules, elem_fits_field}
 use Rattle.decision.proofs.decide.Goals as goal
 
-few-items : (s : tie.Start) → s.args.t1.items.count < 256
-few-items s = s.well-formed.0.1.1.1.1.1.0.1.1.0.1
+few-items : (s : goal.Start) → s.args.rules.items.count < 256
+few-items s = s.well_formed.0.1.1.1.1.1.0.1.1.0.1
 
-byte-item : (s : tie.Start) → s.args.q.item < 256
+byte-item : (s : goal.Start) → s.args.q.item < 256
 byte-item s = search rules
 
-byte-values : (s : tie.Start) (k : ℕ) → get_or s.args.t1.items.values k 0 < 256
+byte-values : (s : goal.Start) (k : ℕ) → get_or s.args.rules.items.values k 0 < 256
 byte-values s k =
-    let f : Fits w8 (get_or s.args.t1.items.values k 0) = elem_fits_field w8 w8 s.args.t1.items.values _ k s.well-formed.0.1.1.1.1.1.0.1.1.1.0.1.1 tt in
+    let f : Fits w8 (get_or s.args.rules.items.values k 0) = elem_fits_field w8 w8 s.args.rules.items.values _ k s.well_formed.0.1.1.1.1.1.0.1.1.1.0.1.1 tt in
     omega arith
 
 pub item_values-items-requires : goal.item_values-items-requires
-item_values-items-requires c = record { in_lists = basis-lists c.args.t1 c.args.basis c.requires.basis_of; scratch = c.requires.scratch }
+item_values-items-requires c = record { in_lists = basis-lists c.args.rules c.args.basis c.requires.basis_of; scratch = c.requires.scratch }
 
 pub session_values-own-requires : goal.session_values-own-requires
 session_values-own-requires c =
-    let i = c.item_values-items in record { in_lists = basis-lists c.args.t1 c.args.basis c.requires.basis_of; scratch = scratch-kept c.requires.scratch i.auto.steps i.auto.area }
+    let i = c.item_values-items in record { in_lists = basis-lists c.args.rules c.args.basis c.requires.basis_of; scratch = scratch-kept c.requires.scratch i.auto.steps i.auto.area }
 
 pub count_pairs-pairs-requires : goal.count_pairs-pairs-requires
 count_pairs-pairs-requires c = c.requires.by_index
@@ -35,7 +35,7 @@ count_pairs-pairs-requires c = c.requires.by_index
 pub first_hit-hit-requires : goal.first_hit-hit-requires
 first_hit-hit-requires c =
     let o = c.session_values-own in
-    let i = c.item_values-items in record { in_lists = basis-lists c.args.t1 c.args.basis c.requires.basis_of; scratch = scratch-kept c.requires.scratch (o.auto.steps ∙ i.auto.steps) (o.auto.area ∙ i.auto.area); permission_lt_permissions = c.requires.permission_lt_permissions }
+    let i = c.item_values-items in record { in_lists = basis-lists c.args.rules c.args.basis c.requires.basis_of; scratch = scratch-kept c.requires.scratch (o.auto.steps ∙ i.auto.steps) (o.auto.area ∙ i.auto.area); permission_lt_permissions = c.requires.permission_lt_permissions }
 
 pub shape_of-area-then-hit-ge256 : goal.shape_of-area-then-hit-ge256
 shape_of-area-then-hit-ge256 c = c.first_hit-hit.auto.area ∙ c.session_values-own.auto.area ∙ c.item_values-items.auto.area
@@ -46,14 +46,14 @@ shape_of-steps-then-hit-ge256 c = c.first_hit-hit.auto.steps ∙ c.session_value
 pub returns-then-hit-ge256 : goal.returns-then-hit-ge256
 returns-then-hit-ge256 c =
     let a = c.args in
-    decided-safe a.t1 _ a.q _ (basis-model a.t1 a.basis c.requires.basis_of) c.helpers-helpers.result c.item_values-items.result c.session_values-own.result c.who_values-who.result
+    decided-safe a.rules _ a.q _ (basis-model a.rules a.basis c.requires.basis_of) c.helpers-helpers.result c.item_values-items.result c.session_values-own.result c.who_values-who.result
     c.first_hit-hit.result c.helpers-helpers.ensures c.item_values-items.ensures c.session_values-own.ensures c.who_values-who.ensures c.first_hit-hit.ensures
     _ _ c.count_pairs-pairs.ensures refl refl refl (omega (arith, c.if-hit-ge256.true))
 
 pub write_rows-end-requires : goal.write_rows-end-requires
 write_rows-end-requires c =
     let a = c.args in
-    place-shallow a.t1 _ a.q _ (basis-model a.t1 a.basis c.requires.basis_of) c.helpers-helpers.result c.item_values-items.result c.session_values-own.result c.who_values-who.result
+    place-shallow a.rules _ a.q _ (basis-model a.rules a.basis c.requires.basis_of) c.helpers-helpers.result c.item_values-items.result c.session_values-own.result c.who_values-who.result
     c.first_hit-hit.result c.helpers-helpers.ensures c.item_values-items.ensures c.session_values-own.ensures c.who_values-who.ensures c.first_hit-hit.ensures
     (byte-item s) (few-items s) (byte-values s) (omega (arith, c.if-hit-ge256.false))
 
@@ -66,6 +66,6 @@ shape_of-steps c = c.first_hit-hit.auto.steps ∙ c.session_values-own.auto.step
 pub returns : goal.returns
 returns c =
     let a = c.args in
-    decided-leak a.t1 _ a.q _ (basis-model a.t1 a.basis c.requires.basis_of) c.helpers-helpers.result c.item_values-items.result c.session_values-own.result c.who_values-who.result
+    decided-leak a.rules _ a.q _ (basis-model a.rules a.basis c.requires.basis_of) c.helpers-helpers.result c.item_values-items.result c.session_values-own.result c.who_values-who.result
     c.first_hit-hit.result c.helpers-helpers.ensures c.item_values-items.ensures c.session_values-own.ensures c.who_values-who.ensures c.first_hit-hit.ensures
     _ _ c.count_pairs-pairs.ensures refl (omega (arith, c.if-hit-ge256.false)) refl _ c.write_rows-end.ensures

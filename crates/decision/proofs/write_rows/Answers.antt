@@ -6,7 +6,7 @@ use Rattle.decision.proofs.Decided.{leak-left}
 use borrow.Author.Rules.{rules}
 use Rattle.decision.proofs.write_rows.Goals as goal
 
-few-sessions : (s : tie.Start) → s.args.starting.count < 256
+few-sessions : (s : goal.Start) → s.args.starting.count < 256
 few-sessions s = search rules
 
 pub write_leak-end-requires : goal.write_leak-end-requires

@@ -16,30 +16,30 @@ use Rattle.format.proofs.Kept.{unless_fault-none, unless_fault-first}
 use Rattle.format.proofs.put_field.Goals as goal
 
 -- the cursor after both tests
-module _ (c : tie.After-judged2) where
-  checked : let a = c.before.before.before.before.args in
-      fault_of c.judged2.result.number ≡ first (fault_of a.at.number) ((field a.w (λ _. a.holds) a.n).judge a.x)
+module _ (c : goal.After-judged-checked) where
+  checked : let a = c.args in
+      fault_of c.judged-checked.result.number ≡ first (fault_of a.at.number) ((field a.w (λ _. a.holds) a.n).judge a.x)
   unfolding field
   checked =
-      let a = c.before.before.before.before.args in
-      let m = c.before.judged in
-      let f = c.before.before.fits2 in
-      ap (λ (x : Cursor). fault_of x.number) c.judged2.ensures
+      let a = c.args in
+      let m = c.judged in
+      let f = c.UNKNOWN-fits2 in
+      ap (λ (x : Cursor). fault_of x.number) c.judged-checked.ensures
       ∙ fault-judged m.result a.holds a.n (omega arith)
       ∙ ap (λ (x : Cursor). first (fault_of x.number) (unless a.holds a.n)) m.ensures
       ∙ ap (λ (o : Option ℕ). first o (unless a.holds a.n)) (fault-judged a.at f.result a.n (omega arith))
       ∙ first-assoc _ _ _
       ∙ ap (λ (b : Bool). first (fault_of a.at.number) (first (unless b a.n) (unless a.holds a.n))) f.ensures
 
-  stays : c.judged2.result.pos ≡ c.before.before.before.before.args.at.pos
-  stays = ap (λ (x : Cursor). x.pos) c.judged2.ensures ∙ judged-pos _ _ _ ∙ ap (λ (x : Cursor). x.pos) c.before.judged.ensures ∙ judged-pos _ _ _
+  stays : c.judged-checked.result.pos ≡ c.args.at.pos
+  stays = ap (λ (x : Cursor). x.pos) c.judged-checked.ensures ∙ judged-pos _ _ _ ∙ ap (λ (x : Cursor). x.pos) c.judged.ensures ∙ judged-pos _ _ _
 
   -- what is stored of the field, by the number that the two tests gave
-  kept : let a = c.before.before.before.before.args in
-      kept_from a.at (field a.w (λ _. a.holds) a.n) a.x ≡ unless_fault (fault_of c.judged2.result.number) ((a.w, a.x) ∷ [])
+  kept : let a = c.args in
+      kept_from a.at (field a.w (λ _. a.holds) a.n) a.x ≡ unless_fault (fault_of c.judged-checked.result.number) ((a.w, a.x) ∷ [])
   unfolding field kept_from
   kept =
-      let a = c.before.before.before.before.args in
+      let a = c.args in
       let one : List (ℕ × ℕ) = (a.w, a.x) ∷ [] in
       sym (unless_fault-first (fault_of a.at.number) ((field a.w (λ _. a.holds) a.n).judge a.x) one)
       ∙ ap (λ (o : Option ℕ). unless_fault o one) (sym checked)

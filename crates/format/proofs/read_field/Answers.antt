@@ -13,24 +13,24 @@ use Rattle.format.proofs.Chain.{res-any, chain-field, taken_is, res-bits, within
 use Rattle.format.proofs.read_field.Goals as goal
 
 -- the cursor after the three calls
-module _ (c : tie.After-judged) where
-  read : let a = c.before.before.before.before.args in
-      res_of c.judged.result c.before.before.take.result.value ≡ from a.at ((field a.w (within a.lo a.end) a.n).read a.s.now)
+module _ (c : goal.After-judged-next) where
+  read : let a = c.args in
+      res_of c.judged-next.result c.take-t.result.value ≡ from a.at ((field a.w (within a.lo a.end) a.n).read a.s.now)
   read =
-      let a = c.before.before.before.before.args in
-      let t = c.before.before.take in
-      let b = c.before.within in
-      ap (λ (x : Cursor). res_of x t.result.value) c.judged.ensures
-      ∙ chain-field a.w _ a.n a.s.now _ _ _ _ (res-bits a.s.now a.at a.w t.result t.ensures.0) b.ensures (omega arith)
+      let a = c.args in
+      let t = c.take-t in
+      let b = c.within in
+      ap (λ (x : Cursor). res_of x t.result.value) c.judged-next.ensures
+      ∙ chain-field a.w _ a.n a.s.now _ _ _ _ (res-bits a.s.now a.at a.w t.result t.ensures.value) b.ensures (omega arith)
 
-  place : let a = c.before.before.before.before.args in c.judged.result.pos ≤ a.at.pos + a.w
+  place : let a = c.args in c.judged-next.result.pos ≤ a.at.pos + a.w
   place =
-      let t = c.before.before.take in
-      let e : c.judged.result.pos ≡ t.result.at.pos = ap (λ (x : Cursor). x.pos) c.judged.ensures ∙ judged-pos _ _ _ in
-      omega (arith, t.ensures.1.0.place)
+      let t = c.take-t in
+      let e : c.judged-next.result.pos ≡ t.result.at.pos = ap (λ (x : Cursor). x.pos) c.judged-next.ensures ∙ judged-pos _ _ _ in
+      omega (arith, t.ensures.near.place)
 
-  counted : CountIsPlace c.before.before.before.before.args.s.now c.judged.result
-  counted = judged-count _ _ c.judged.ensures c.before.before.take.ensures.1.1
+  counted : CountIsPlace c.args.s.now c.judged-next.result
+  counted = judged-count _ _ c.judged-next.ensures c.take-t.ensures.count_is_place
 
 pub returns-then-next-ne0 : goal.returns-then-next-ne0
 returns-then-next-ne0 c = record { value = taken_is _ _ (res-any c.judged-next.result _ c.take-t.result.value (omega arith) ∙ read k) (λ _. refl) (counted k).count; near = record { place = place k; fits = pow_pos c.args.w; below = omega arith }; count_is_place = counted k }

@@ -16,25 +16,25 @@ use borrow.Author.Rules.{rules}
 use Rattle.hits.proofs.find_hit.Goals as goal
 
 -- the first session value that has the permission on the value at place i
-module _ (t : tie.After-lowest invariant-loop decreases-loop) where
+module _ (t : goal.After-lowest-value) where
   abbrev start : tie.Start invariant-loop decreases-loop
-  start = t.before.before.before.before.before.before.before.before.before.before.before.before.before.before.before.before
+  start = c
 
   abbrev model : Model
   model = model_by start.args.basis start.args.nodes.now
 
   abbrev among : ℕ → Bool
-  among = lane_of t.before.before.before.before.before.before.before.before.before.before.before.and.result
+  among = lane_of t.and-asked.result
 
   abbrev value : ℕ
-  value = get_or t.before.before.before.before.before.before.before.before.before.before.order-of.result t.before.before.before.before.before.before.before.before.loop.i 0
+  value = get_or t.order_of-order.result t.loop-i.i 0
 
-  lowest-is : t.lowest.result ≡ hit_on model start.args.permission among value
+  lowest-is : t.lowest-value.result ≡ hit_on model start.args.permission among value
   lowest-is =
-      let r = t.before.before.before.accessors in
-      t.lowest.ensures ∙ lowest-lanes _ r.result r.ensures.0 ∙ ap (hit_on model start.args.permission among) t.before.before.before.before.before.byte_at.ensures
+      let r = t.accessors in
+      t.lowest-value.ensures ∙ lowest-lanes _ r.result r.ensures.lanes ∙ ap (hit_on model start.args.permission among) t.byte_at-o.ensures
 
-  lowest-off : 256 ≤ t.lowest.result → hit_on model start.args.permission among value ≡ 256
+  lowest-off : 256 ≤ t.lowest-value.result → hit_on model start.args.permission among value ≡ 256
   lowest-off h = omega (arith, lowest-is, hit_few model start.args.permission among value)
 
 pub loop-i-init : goal.loop-i-init

@@ -11,9 +11,9 @@ use Rattle.host_files.proofs.Laws.{refused-number, length-number}
 use Rattle.host_files.proofs.write_back.Goals as goal
 
 -- what is rewritten is what the rules that were read are written as
-again : (c : tie.After-write-rules) → rewritten (reading c.before.before.before.before.before.before.before.args.file.now) ≡ writing (policy_of c.before.before.before.before.read-rules.result.rules)
+again : (c : goal.After-write_rules-w) → rewritten (reading c.args.file.now) ≡ writing (policy_of c.read_rules-p.result.rules)
 unfolding rewritten
-again c = ap rewritten (was-accepted _ _ _ c.before.before.before.before.read-rules.ensures.0 c.before.before.enum_told.given.1)
+again c = ap rewritten (was-accepted _ _ _ c.read_rules-p.ensures.rules_value c.in-Accepted.is)
 
 pub returns-in-Refused : goal.returns-in-Refused
 unfolding rewritten write_number write_length filled

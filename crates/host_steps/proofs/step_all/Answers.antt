@@ -10,8 +10,8 @@ use borrow.Author.Rules.{rules}
 use Rattle.host_steps.proofs.step_all.Goals as goal
 
 -- the rules that were read are the file's
-accepted : (c : tie.After-steps-at) → reading c.before.before.before.before.before.before.before.before.before.before.before.before.args.file.now ≡ rules (policy_of c.before.before.before.before.before.before.before.read-rules.result.rules)
-accepted c = was-accepted _ _ _ c.before.before.before.before.before.before.before.read-rules.ensures.0 c.before.before.before.before.before.enum_told.given.1
+accepted : (c : goal.After-steps_at-ran) → reading c.args.file.now ≡ rules (policy_of c.read_rules-p.result.rules)
+accepted c = was-accepted _ _ _ c.read_rules-p.ensures.rules_value c.in-Accepted.is
 
 pub returns-in-Refused : goal.returns-in-Refused
 returns-in-Refused c =

@@ -22,10 +22,10 @@ use borrow.Author.Rules.{rules, elem_fits_field}
 use Rattle.item_search.proofs.any_item.Goals as goal
 
 -- the starting items' values are bytes
-byte-values : (s : tie.Start) (j : ℕ) → j < length (values_of s.args.items) → get_or (values_of s.args.items) j 0 < 256
+byte-values : (s : goal.Start) (j : ℕ) → j < length (values_of s.args.items) → get_or (values_of s.args.items) j 0 < 256
 byte-values s j h =
     let v = s.args.items in
-    let f : Fits w8 (get_or v.values j 0) = elem_fits_field w8 w8 v.values _ j s.well-formed.1.1.1.1.1.0.1.1.1.0.1.1 tt in
+    let f : Fits w8 (get_or v.values j 0) = elem_fits_field w8 w8 v.values _ j s.well_formed.1.1.1.1.1.0.1.1.1.0.1.1 tt in
     let l : j < v.count = omega (arith, values_length v) in
     omega (arith, value-at v j l)
 

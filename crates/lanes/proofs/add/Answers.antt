@@ -8,9 +8,9 @@ use Rattle.lanes.proofs.add.Goals as goal
 pub returns-then-v-lt256 : goal.returns-then-v-lt256
 returns-then-v-lt256 c =
     let a = c.args in
-    let l : length a.t1 ≡ 4 = search rules in record { lanes = lanes-add a.t1 a.v l c.if-v-lt256.true; value = sym (added-in a.t1 a.v c.if-v-lt256.true) }
+    let l : length a.x ≡ 4 = search rules in record { lanes = lanes-add a.x a.v l c.if-v-lt256.true; value = sym (added-in a.x a.v c.if-v-lt256.true) }
 
 pub returns-else-v-lt256 : goal.returns-else-v-lt256
 returns-else-v-lt256 c =
     let a = c.args in
-    let l : length a.t1 ≡ 4 = search rules in record { lanes = lanes-add-past a.t1 a.v l c.if-v-lt256.false; value = sym (added-past a.t1 a.v c.if-v-lt256.false) }
+    let l : length a.x ≡ 4 = search rules in record { lanes = lanes-add-past a.x a.v l c.if-v-lt256.false; value = sym (added-past a.x a.v c.if-v-lt256.false) }

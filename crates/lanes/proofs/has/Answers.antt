@@ -11,4 +11,4 @@ unfolding lane_of bit_of
 returns-then-v-lt256 c = refl
 
 pub returns-else-v-lt256 : goal.returns-else-v-lt256
-returns-else-v-lt256 c = let a = c.args in let l : length a.t1 ≡ 4 = search rules in sym (lane_past a.t1 a.v l c.if-v-lt256.false)
+returns-else-v-lt256 c = let a = c.args in let l : length a.x ≡ 4 = search rules in sym (lane_past a.x a.v l c.if-v-lt256.false)

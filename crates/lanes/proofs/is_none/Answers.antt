@@ -5,4 +5,4 @@ use borrow.Author.Rules.{rules}
 use Rattle.lanes.proofs.is_none.Goals as goal
 
 pub returns : goal.returns
-returns c = c.no_bit.ensures ∙ none-words c.args.t1
+returns c = c.no_bit.ensures ∙ none-words c.args.x

@@ -8,4 +8,4 @@ use borrow.Author.Rules.{rules}
 use Rattle.lanes.proofs.not.Goals as goal
 
 pub returns : goal.returns
-returns c = let x = c.args.t1 in word-op (λ (a b : Bool). not a) (λ (a b : ℕ). bit_xor a 18446744073709551615) (λ a b k h. bit_not a k h) x x
+returns c = let x = c.args.x in word-op (λ (a b : Bool). not a) (λ (a b : ℕ). bit_xor a 18446744073709551615) (λ a b k h. bit_not a k h) x x

@@ -8,11 +8,11 @@ use Rattle.lanes.proofs.without.Goals as goal
 pub returns-then-v-lt256 : goal.returns-then-v-lt256
 returns-then-v-lt256 c =
     let a = c.args in
-    let l : length a.t1 ≡ 4 = search rules in
-    lanes-without a.t1 a.v l c.if-v-lt256.true
+    let l : length a.x ≡ 4 = search rules in
+    lanes-without a.x a.v l c.if-v-lt256.true
 
 pub returns-else-v-lt256 : goal.returns-else-v-lt256
 returns-else-v-lt256 c =
     let a = c.args in
-    let l : length a.t1 ≡ 4 = search rules in
-    lanes-without-past a.t1 a.v l c.if-v-lt256.false
+    let l : length a.x ≡ 4 = search rules in
+    lanes-without-past a.x a.v l c.if-v-lt256.false

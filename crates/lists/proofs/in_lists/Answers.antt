@@ -16,20 +16,20 @@ use Rattle.lists.proofs.Laws.{later-width, in-none, in_rest, in-not, in-any}
 use Rattle.lists.proofs.in_lists.Goals as goal
 
 -- the bits of the attribute at hand, and of those after it
-bits_at : (c : tie.After-bits-for invariant-loop decreases-loop) → c.bits-for.result ≡ bits_for (attr_at (without_lists c.before.before.before.before.before.before.before.before.before.before.before.args.class) c.before.before.before.before.before.before.loop.k)
+bits_at : (c : goal.After-bits_for) → c.bits_for.result ≡ bits_for (attr_at (without_lists c.args.class) c.loop-k.k)
 unfolding attr_at
-bits_at c = let f = c.bits-for.ensures 0 in cc
+bits_at c = let f = c.bits_for.ensures 0 in cc
 
-left_at : (c : tie.After-bits-for invariant-loop decreases-loop) →
-    c.before.before.before.before.before.before.loop.left ≡ c.bits-for.result + width (drop (c.before.before.before.before.before.before.loop.k + 1) (attrs_of (without_lists c.before.before.before.before.before.before.before.before.before.before.before.args.class)))
+left_at : (c : goal.After-bits_for) →
+    c.loop-k.left ≡ c.bits_for.result + width (drop (c.loop-k.k + 1) (attrs_of (without_lists c.args.class)))
 left_at c =
-    let t = c.before.before.before.before.before.before.loop in
-    omega (arith, bits_at c, later-width (without_lists c.before.before.before.before.before.before.before.before.before.before.before.args.class) t.k (omega arith))
+    let t = c.loop-k in
+    omega (arith, bits_at c, later-width (without_lists c.args.class) t.k (omega arith))
 
 -- whether its code stands for a value
-code_at : (c : tie.After-code-ok invariant-loop decreases-loop) →
+code_at : (c : goal.After-code_ok) →
     c.code_ok.result
-    ≡ within 0 (codes (attr_at (without_lists c.before.before.before.before.before.before.before.before.before.before.before.before.before.args.class) c.before.before.before.before.before.before.before.before.loop.k)) (c.before.before.before.before.before.before.before.before.loop.rest / 2 ^ (c.before.before.before.before.before.before.before.before.loop.left - c.before.before.bits-for.result))
+    ≡ within 0 (codes (attr_at (without_lists c.args.class) c.loop-k.k)) (c.loop-k.rest / 2 ^ (c.loop-k.left - c.bits_for.result))
 unfolding attr_at
 code_at c = let f = c.code_ok.ensures 0 in cc
 

@@ -10,15 +10,13 @@ use borrow.Author.Rules.{rules}
 use Rattle.preparing.proofs.prepare_with.Goals as goal
 
 -- the room of the tables
-fits : (c : tie.After-larger)
-    → (c.larger.result ≤ 256) × (4 * (193 + 64 * c.larger.result) ≤ length c.before.before.before.before.before.before.before.before.before.args.area.now)
+fits : (c : goal.After-larger-room)
+    → (c.larger-room.result ≤ 256) × (4 * (193 + 64 * c.larger-room.result) ≤ length c.args.area.now)
 fits c =
-    let y = c.before in
-    let x = y.before in
-    let w = x.before.before.before.before.before.before.before.requires.1.1.0 in
-    let p = x.room_of.ensures in
-    let q = y.room-of2.ensures in
-    room_fits _ _ _ _ c.larger.result _ p.0 q.0 p.1.1 q.1.1 w.0 w.1 c.larger.ensures.1
+    let w = c.requires.row_in_bounds in
+    let p = c.room_of-rows.ensures in
+    let q = c.room_of-outers.ensures in
+    room_fits _ _ _ _ c.larger-room.result _ p.value q.value p.result_nonzero.1 q.result_nonzero.1 w.0 w.1 c.larger-room.ensures.by_index
 
 pub fill_tables-requires : goal.fill_tables-requires
 fill_tables-requires c =

@@ -32,42 +32,32 @@ as_read c =
       nodes = c.read-formulas.result.nodes;
     }
 
-module _ (c : tie.After-read-formulas) where
-  read : let a = c.before.before.before.before.before.before.before.before.args in
-      res_of c.read-formulas.result.at (policy_of (as_read c)) ≡ policy_format.read a.s.now 0
+module _ (c : goal.After-read_formulas-f) where
+  read : let a = c.args in
+      res_of c.read_formulas-f.result.at (policy_of (as_read c)) ≡ policy_format.read a.s.now 0
   unfolding policy_format head_of lists_of under_head as_read
   read =
-      let ki = c.before in
-      let kt = ki.before in
-      let ku = kt.before in
-      let kc = ku.before.before in
-      let kh = kc.before in
-      let a = kh.before.before.args in
+      let a = c.args in
       let s = a.s.now in
-      read-counted kh.read-counts.result (as_read c) ku.read-values.ensures.1.0.1 kt.read-sessions.ensures.1.0.1 ki.read-values2.ensures.1.0.1 refl s _ _
+      read-counted c.read_counts-h.result (as_read c) c.read_values-u.ensures.pos_bound.1 c.read_sessions-t.ensures.pos_bound.1 c.read_values-i.ensures.pos_bound.1 refl s _ _
       (chain-via _ _ _ s _ _ _
-      (chain-pair _ _ s _ _ _ _ _ kh.read-counts.ensures.0
-      (chain-pair _ _ s _ _ _ _ _ kc.read-classes.ensures.0
-      (chain-pair _ _ s _ _ _ _ _ ku.read-values.ensures.0
-      (chain-pair _ _ s _ _ _ _ _ kt.read-sessions.ensures.0
-      (chain-pair _ _ s _ _ _ _ _ ki.read-values2.ensures.0 c.read-formulas.ensures.0))))))
+      (chain-pair _ _ s _ _ _ _ _ c.read_counts-h.ensures.result_value
+      (chain-pair _ _ s _ _ _ _ _ c.read_classes-c.ensures.classes_value
+      (chain-pair _ _ s _ _ _ _ _ c.read_values-u.ensures.values_value
+      (chain-pair _ _ s _ _ _ _ _ c.read_sessions-t.ensures.sessions_value
+      (chain-pair _ _ s _ _ _ _ _ c.read_values-i.ensures.values_value c.read_formulas-f.ensures.permissions_value))))))
       ∙ from-good _ _ refl
 
-  place : c.read-formulas.result.at.pos ≤ 16680
+  place : c.read_formulas-f.result.at.pos ≤ 16680
   place =
-      let ki = c.before in
-      let kt = ki.before in
-      let ku = kt.before in
-      let kc = ku.before.before in
-      let kh = kc.before in
       omega (
         arith,
-        c.read-formulas.ensures.1.0,
-        ki.read-values2.ensures.1.0.0,
-        kt.read-sessions.ensures.1.0.0,
-        ku.read-values.ensures.1.0.0,
-        kc.read-classes.ensures.1.1.0,
-        kh.read-counts.ensures.1.1.0,
+        c.read_formulas-f.ensures.pos_bound,
+        c.read_values-i.ensures.pos_bound.0,
+        c.read_sessions-t.ensures.pos_bound.0,
+        c.read_values-u.ensures.pos_bound.0,
+        c.read_classes-c.ensures.pos_bound,
+        c.read_counts-h.ensures.pos_bound,
       )
 
 pub read_formulas-f-requires : goal.read_formulas-f-requires

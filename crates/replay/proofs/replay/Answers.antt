@@ -12,14 +12,14 @@ use borrow.Author.Rules.{rules}
 use Rattle.replay.proofs.replay.Goals as goal
 
 -- the rules were read
-read : (c : tie.After-enum-told) → reading c.before.before.before.before.before.before.before.before.before.args.file.now ≡ rules (policy_of c.before.before.before.read-rules.result.rules)
+read : (c : goal.In-Accepted) → reading c.args.file.now ≡ rules (policy_of c.read_rules-parsed.result.rules)
 read c =
-    let q = c.before.before.before.read-rules in
-    was-accepted c.before.before.before.before.before.before.before.before.before.args.file.now q.result.answer (policy_of q.result.rules) q.ensures.0 c.enum_told.given.1
+    let q = c.read_rules-parsed in
+    was-accepted c.args.file.now q.result.answer (policy_of q.result.rules) q.ensures.rules_value c.in-Accepted.is
 
 -- something is asked
-asking : (c : tie.Else1) → asks (policy_of c.before.before.before.before.before.read-rules.result.rules) c.before.before.before.before.before.before.before.before.before.before.before.args.question.now ≡ true
-asking c = held c.before.asks.ensures c.if1.left
+asking : (c : goal.Else-not-asks) → asks (policy_of c.read_rules-parsed.result.rules) c.args.question.now ≡ true
+asking c = held c.asks.ensures c.if-not-asks.left
 
 pub returns-in-Refused : goal.returns-in-Refused
 returns-in-Refused c =

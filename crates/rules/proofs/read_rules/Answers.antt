@@ -15,17 +15,16 @@ use borrow.Author.Rules.{rules}
 use Rattle.rules.proofs.read_rules.Goals as goal
 
 -- what the last cursor stands for is what the file reads as
-ended : (c : tie.After-judged) → res_of c.judged.result (policy_of c.before.before.before.before.before.before.read-policy.result.rules) ≡ read_file policy_format c.before.before.before.before.before.before.before.before.args.file.now
+ended : (c : goal.After-judged-end) → res_of c.judged-end.result (policy_of c.read_policy-r.result.rules) ≡ read_file policy_format c.args.file.now
 ended c =
-    let p = c.before.before.before.before.before.before in
-    let s = p.before.before.args.file.now in
-    ap (λ (x : Cursor). res_of x (policy_of p.read-policy.result.rules)) c.judged.ensures
-    ∙ chain-file policy_format s _ _ _ _ _ _ refl refl (p.read-policy.ensures.0 ∙ sym (from-good record { number = 0; pos = 0; taken = 0 } _ refl))
-    (res-field _ _ 3 s _ _ (omega arith) c.before.before.before.read-field.ensures.0) c.before.at-end.ensures
+    let s = c.args.file.now in
+    ap (λ (x : Cursor). res_of x (policy_of c.read_policy-r.result.rules)) c.judged-end.ensures
+    ∙ chain-file policy_format s _ _ _ _ _ _ refl refl (c.read_policy-r.ensures.rules_value ∙ sym (from-good record { number = 0; pos = 0; taken = 0 } _ refl))
+    (res-field _ _ 3 s _ _ (omega arith) c.read_field-fill.ensures.value) c.at_end.ensures
 
 -- and as many bits were taken as stand before it
-counted : (c : tie.After-judged) → CountIsPlace c.before.before.before.before.before.before.before.before.args.file.now c.judged.result
-counted c = judged-count _ _ c.judged.ensures c.before.before.before.read-field.ensures.1.1
+counted : (c : goal.After-judged-end) → CountIsPlace c.args.file.now c.judged-end.result
+counted c = judged-count _ _ c.judged-end.ensures c.read_field-fill.ensures.count_is_place
 
 pub returns-then-end-ne0 : goal.returns-then-end-ne0
 unfolding answer_of beside

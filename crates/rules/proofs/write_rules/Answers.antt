@@ -30,10 +30,10 @@ record Made (p : Policy) (pos : ℕ) (made : List ℕ) : Type 0 where
   short : length (file_of p) ≤ 2069
   front : take (length (file_of p)) made ≡ file_of p
 
-made : (k : tie.After-put-policy) → k.put-policy.result.number ≡ 0 → Made (policy_of k.before.before.before.args.rules) k.put-policy.result.pos k.put-policy.new.0
+made : (k : goal.After-put_policy-last) → k.put_policy-last.result.number ≡ 0 → Made (policy_of k.args.rules) k.put_policy-last.result.pos k.put_policy-last.new.out
 made k z =
-    let p = policy_of k.before.before.before.args.rules in
-    let (e, d, f) = written policy_format lawful-policy refl refl k.put-policy.ensures.0 z in
+    let p = policy_of k.args.rules in
+    let (e, d, f) = written policy_format lawful-policy refl refl k.put_policy-last.ensures.stores z in
     let b = writing-is p ∙ e in
     let s = written-short p (file_of p) b in
     let room : length (file_of p) ≤ length (replicate {A = ℕ} 2069 0) = omega (arith, length-replicate {A = ℕ} 2069 0) in

@@ -10,11 +10,11 @@ use Rattle.session_rows.proofs.search_of.Goals as goal
 pub returns-then-u-lt16 : goal.returns-then-u-lt16
 returns-then-u-lt16 c =
     let a = c.args in
-    let n : length a.t1 ≡ 16 = c.well_formed.0.1.0.1 in
-    get_d_any a.t1 a.u _ _ (omega arith)
+    let n : length a.users ≡ 16 = c.well_formed.0.1.0.1 in
+    get_d_any a.users a.u _ _ (omega arith)
 
 pub returns-else-u-lt16 : goal.returns-else-u-lt16
 returns-else-u-lt16 c =
     let a = c.args in
-    let n : length a.t1 ≡ 16 = c.well_formed.0.1.0.1 in
-    c.nothing.ensures ∙ sym (get_or-eq_default a.t1 nothing (omega arith))
+    let n : length a.users ≡ 16 = c.well_formed.0.1.0.1 in
+    c.nothing.ensures ∙ sym (get_or-eq_default a.users nothing (omega arith))

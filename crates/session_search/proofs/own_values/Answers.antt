@@ -31,7 +31,7 @@ module _ (none one : List ℕ) (held : ℕ) (h : held < 256) (N : Lanes (λ v. f
   spread-held : spread (lane_of one) nothing 0 0 ≡ pushed nothing held 0 0
   spread-held = spread-one (lane_of one) nothing 0 0 held h (new held h ∙ eq-eqb held held refl) (λ v l d. new v l ∙ ne_eqb v held d)
 
-byte-held : (s : tie.Start) → s.args.held < 256
+byte-held : (s : goal.Start) → s.args.held < 256
 byte-held s = search rules
 
 pub returns : goal.returns

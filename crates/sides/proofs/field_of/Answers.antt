@@ -8,12 +8,12 @@ use borrow.Author.Rules.{rules}
 use Rattle.sides.proofs.field_of.Goals as goal
 
 pub returns-then-class-k : goal.returns-then-class-k
-returns-then-class-k c = let a = c.args in field-none a.t1 a.k c.if-class-k.true
+returns-then-class-k c = let a = c.args in field-none a.class a.k c.if-class-k.true
 
 pub returns : goal.returns
 unfolding attr_at
 returns c =
-    let d = c.args.t1 in
+    let d = c.args.class in
     let k = c.args.k in
     let own : c.bits_for.result ≡ bits_for (attr_at d k) = let f = c.bits_for.ensures (get_or d.lists k 0) in cc in
     let size : c.byte_at-size.result ≡ (attr_at d k).size = c.byte_at-size.ensures in

@@ -10,13 +10,13 @@ use borrow.Author.Rules.{rules}
 use Rattle.sides.proofs.right_of.Goals as goal
 
 pub loop-j-init : goal.loop-j-init
-loop-j-init c = (search rules, search rules, search rules, search rules, sym (later-none c.args.t1))
+loop-j-init c = (search rules, search rules, search rules, search rules, sym (later-none c.args.class))
 
 pub loop-j-preserved : goal.loop-j-preserved
 unfolding attr_at
 loop-j-preserved c =
     let t = c.loop-j in
-    let d = c.args.t1 in
+    let d = c.args.class in
     let j = t.j - 1 in
     let e : t.j ≡ j + 1 = omega arith in
     let own : c.bits_for.result ≡ bits_for (attr_at d j) = let f = c.bits_for.ensures (get_or d.lists j 0) in cc in
@@ -27,4 +27,4 @@ pub returns : goal.returns
 returns c =
     let t = c.loop-j in
     let e : t.j ≡ c.args.k + 1 = omega arith in
-    t.invariant.4 ∙ ap (λ (n : ℕ). width (drop n (attrs_of c.args.t1))) e
+    t.invariant.4 ∙ ap (λ (n : ℕ). width (drop n (attrs_of c.args.class))) e

@@ -25,35 +25,35 @@ pub returns-then-u-ge16 : goal.returns-then-u-ge16
 returns-then-u-ge16 c =
     let a = c.args in
     let l = c.loop-k in
-    let n : length a.t1 ≡ 16 = search rules in
+    let n : length a.users ≡ 16 = search rules in
     let d : Session = record { user = 0; value = 0 } in
     let u = c.byte_at-u in
-    found-not a.t1 d (sessions_of a.starting) l.k (omega (arith, sessions-length a.starting))
-    (ap (brought a.t1) (session-at a.starting l.k d (omega arith)) ∙ brought-none a.t1 _ _ (omega (arith, u.ensures)))
+    found-not a.users d (sessions_of a.starting) l.k (omega (arith, sessions-length a.starting))
+    (ap (brought a.users) (session-at a.starting l.k d (omega arith)) ∙ brought-none a.users _ _ (omega (arith, u.ensures)))
 
 pub returns-then-not-has : goal.returns-then-not-has
 returns-then-not-has c =
     let a = c.args in
     let l = c.loop-k in
-    let n : length a.t1 ≡ 16 = search rules in
+    let n : length a.users ≡ 16 = search rules in
     let d : Session = record { user = 0; value = 0 } in
     let u = c.byte_at-u in
     let v = c.byte_at in
-    found-not a.t1 d (sessions_of a.starting) l.k (omega (arith, sessions-length a.starting))
-    (ap (brought a.t1) (session-at a.starting l.k d (omega arith)) ∙ ap₂ (λ (j w : ℕ). lane_of (user_found a.t1 j).seen w) (sym u.ensures) (sym v.ensures)
-    ∙ sym (ap (λ (q : Found). lane_of q.seen v.result) (get_d_any a.t1 u.result _ nothing (omega arith))) ∙ sym c.has.ensures ∙ not-true c.has.result c.if-not-has.true)
+    found-not a.users d (sessions_of a.starting) l.k (omega (arith, sessions-length a.starting))
+    (ap (brought a.users) (session-at a.starting l.k d (omega arith)) ∙ ap₂ (λ (j w : ℕ). lane_of (user_found a.users j).seen w) (sym u.ensures) (sym v.ensures)
+    ∙ sym (ap (λ (q : Found). lane_of q.seen v.result) (get_d_any a.users u.result _ nothing (omega arith))) ∙ sym c.has.ensures ∙ not-true c.has.result c.if-not-has.true)
 
 pub loop-k-preserved : goal.loop-k-preserved
 loop-k-preserved c =
     let a = c.args in
     let l = c.loop-k in
-    let n : length a.t1 ≡ 16 = search rules in
+    let n : length a.users ≡ 16 = search rules in
     let u = c.byte_at-u in
     let v = c.byte_at in (
       search rules,
       below_more _ _ l.invariant.1
-          (ap₂ (λ (j w : ℕ). lane_of (user_found a.t1 j).seen w) (sym u.ensures) (sym v.ensures)
-          ∙ sym (ap (λ (q : Found). lane_of q.seen v.result) (get_d_any a.t1 u.result _ nothing (omega arith))) ∙ sym c.has.ensures ∙ not-false c.has.result c.if-not-has.false),
+          (ap₂ (λ (j w : ℕ). lane_of (user_found a.users j).seen w) (sym u.ensures) (sym v.ensures)
+          ∙ sym (ap (λ (q : Found). lane_of q.seen v.result) (get_d_any a.users u.result _ nothing (omega arith))) ∙ sym c.has.ensures ∙ not-false c.has.result c.if-not-has.false),
     )
 
 pub returns : goal.returns
@@ -61,4 +61,4 @@ returns c =
     let a = c.args in
     let l = c.loop-k in
     let d : Session = record { user = 0; value = 0 } in
-    found_all a.t1 d (sessions_of a.starting) (λ k h. let i : k < a.starting.count = omega (arith, sessions-length a.starting) in ap (brought a.t1) (session-at a.starting k d i) ∙ l.invariant.1 k (omega arith))
+    found_all a.users d (sessions_of a.starting) (λ k h. let i : k < a.starting.count = omega (arith, sessions-length a.starting) in ap (brought a.users) (session-at a.starting k d i) ∙ l.invariant.1 k (omega arith))

@@ -13,28 +13,28 @@ use borrow.Author.Rules.{rules}
 use Rattle.user_results.proofs.count_pairs.Goals as goal
 
 pub loop-u-init : goal.loop-u-init
-loop-u-init c = (search rules, sym (pairs-none c.args.t1), search rules)
+loop-u-init c = (search rules, sym (pairs-none c.args.users), search rules)
 
 pub overflow_add-n : goal.overflow_add-n
 overflow_add-n c =
     let a = c.args in
     let l = c.loop-u in
-    let n : length a.t1 ≡ 16 = search rules in
+    let n : length a.users ≡ 16 = search rules in
     let d : Found = record { seen = []; order = []; from = []; via = []; depth = []; place = []; len = 0 } in
-    let same = ap (λ (q : Found). q.len) (get_d_any a.t1 l.u d nothing (omega arith)) in
+    let same = ap (λ (q : Found). q.len) (get_d_any a.users l.u d nothing (omega arith)) in
     omega (arith, c.requires l.u (omega arith), same)
 
 pub loop-u-preserved : goal.loop-u-preserved
 loop-u-preserved c =
     let a = c.args in
     let l = c.loop-u in
-    let n : length a.t1 ≡ 16 = search rules in
-    let same = ap (λ (q : Found). q.len) (get_d_any a.t1 l.u _ nothing (omega arith)) in
-    (search rules, ap₂ ◌+◌ l.invariant.1 same ∙ sym (pairs-more a.t1 l.u), omega (arith, c.requires l.u (omega arith), same))
+    let n : length a.users ≡ 16 = search rules in
+    let same = ap (λ (q : Found). q.len) (get_d_any a.users l.u _ nothing (omega arith)) in
+    (search rules, ap₂ ◌+◌ l.invariant.1 same ∙ sym (pairs-more a.users l.u), omega (arith, c.requires l.u (omega arith), same))
 
 pub returns : goal.returns
 returns c =
     let a = c.args in
     let l = c.loop-u in
     let e : l.u ≡ 16 = omega arith in
-    l.invariant.1 ∙ ap (found_pairs a.t1) e
+    l.invariant.1 ∙ ap (found_pairs a.users) e

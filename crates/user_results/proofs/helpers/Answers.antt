@@ -20,8 +20,8 @@ pub loop-u-preserved : goal.loop-u-preserved
 loop-u-preserved c =
     let a = c.args in
     let l = c.loop-u in
-    let n : length a.t1 ≡ 16 = search rules in
-    let same = get_d_any a.t1 l.u _ nothing (omega arith) in (
+    let n : length a.users ≡ 16 = search rules in
+    let same = get_d_any a.users l.u _ nothing (omega arith) in (
       search rules,
       record {
         long = c.or-t.ensures.long;
@@ -37,4 +37,4 @@ returns c =
     let a = c.args in
     let l = c.loop-u in
     let e : l.u ≡ 16 = omega arith in
-    lanes-as _ _ l.all l.invariant.1 (λ v h. ap (λ (n : ℕ). some_has a.t1 n v) e ∙ any-has a.t1 v)
+    lanes-as _ _ l.all l.invariant.1 (λ v h. ap (λ (n : ℕ). some_has a.users n v) e ∙ any-has a.users v)

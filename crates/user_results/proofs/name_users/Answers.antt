@@ -11,18 +11,18 @@ use borrow.Author.Rules.{rules}
 use Rattle.user_results.proofs.name_users.Goals as goal
 
 pub loop-u-init : goal.loop-u-init
-loop-u-init c = (search rules, naming-none c.args.t1)
+loop-u-init c = (search rules, naming-none c.args.users)
 
 pub loop-u-preserved : goal.loop-u-preserved
 loop-u-preserved c =
     let a = c.args in
     let l = c.loop-u in
-    let n : length a.t1 ≡ 16 = search rules in
-    let same = get_d_any a.t1 l.u _ nothing (omega arith) in
-    (search rules, naming-more a.t1 l.by _ l.u a.asked l.invariant.1 (ap (λ (q : Found). q.seen) (sym same)) c.name_user-t.result c.name_user-t.ensures)
+    let n : length a.users ≡ 16 = search rules in
+    let same = get_d_any a.users l.u _ nothing (omega arith) in
+    (search rules, naming-more a.users l.by _ l.u a.asked l.invariant.1 (ap (λ (q : Found). q.seen) (sym same)) c.name_user-t.result c.name_user-t.ensures)
 
 pub returns : goal.returns
 returns c =
     let a = c.args in
     let l = c.loop-u in
-    naming-all a.t1 l.by l.u (omega arith) l.invariant.1
+    naming-all a.users l.by l.u (omega arith) l.invariant.1

@@ -32,7 +32,7 @@ bounds-users-w c =
 
 pub search_user-q-requires : goal.search_user-q-requires
 search_user-q-requires c =
-    let l = c.loop-u in record { in_lists = c.requires.in_lists; change_prepared = l.invariant.2; lanes = subst (Lanes (opens_in c.args.basis c.args.nodes.now l.u)) (get_d_any c.args.t6 l.u [] _ (omega (arith, c.requires.opened.long))) (c.requires.opened.each l.u (omega arith)) }
+    let l = c.loop-u in record { in_lists = c.requires.in_lists; change_prepared = l.invariant.2; lanes = subst (Lanes (opens_in c.args.basis c.args.nodes.now l.u)) (get_d_any c.args.opened l.u [] _ (omega (arith, c.requires.opened.long))) (c.requires.opened.each l.u (omega arith)) }
 
 pub loop-u-preserved : goal.loop-u-preserved
 loop-u-preserved c =

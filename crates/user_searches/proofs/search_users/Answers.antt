@@ -12,7 +12,7 @@ pub prepare-change-requires : goal.prepare-change-requires
 prepare-change-requires c = record { f_bound = (omega arith, scratch-kept c.requires.scratch c.prepare-open.ensures.steps_len_unchanged (c.open_each-opened.auto.area ∙ c.prepare-open.ensures.area_len_unchanged)); fact = ((λ e. omega arith), (λ e. omega arith), (λ e. omega arith)) }
 
 pub search_each-requires : goal.search_each-requires
-search_each-requires c = record { in_lists = basis-lists c.args.t1 c.args.basis c.requires.basis_of; change_prepared = c.prepare-change.ensures.prepared_for; opened = c.open_each-opened.ensures }
+search_each-requires c = record { in_lists = basis-lists c.args.rules c.args.basis c.requires.basis_of; change_prepared = c.prepare-change.ensures.prepared_for; opened = c.open_each-opened.ensures }
 
 pub shape_of-area : goal.shape_of-area
 shape_of-area c =
@@ -24,4 +24,4 @@ shape_of-steps c =
 
 pub returns : goal.returns
 returns c =
-    subst (λ (m : Model). UsersFound m c.search_each.result) (basis-model c.args.t1 c.args.basis c.requires.basis_of) c.search_each.ensures
+    subst (λ (m : Model). UsersFound m c.search_each.result) (basis-model c.args.rules c.args.basis c.requires.basis_of) c.search_each.ensures

@@ -14,7 +14,7 @@ shape_of-out c = omega (arith, c)
 
 pub returns : goal.returns
 unfolding policy_format lists_format policy_of lists_of head_of head_for
-returns c = record { stores = stores-via _ _ _ (policy_of c.args.t2)
+returns c = record { stores = stores-via _ _ _ (policy_of c.args.rules)
           (stores-pair _ _ c.put_counts-a.ensures.stores
           (stores-pair _ _ c.put_classes-b.ensures.stores
           (stores-pair _ _ c.put_values-c.ensures.stores

@@ -23,18 +23,18 @@ own-by l i p = bits_for (attr_of l p)
 pub loop-k-init : goal.loop-k-init
 loop-k-init c =
     let a = c.args in
-    let l = attrs_of a.t4 in
-    let r : length a.t4.kinds ≡ 8 = search rules in
-    let s : length a.t4.sizes ≡ 8 = search rules in
-    let n : length a.t4.lists ≡ 8 = search rules in
-    let e : c.byte_of-k.result ≡ min a.t4.count 8 = c.byte_of-k.ensures in
-    let none : (p : ℕ) → c.byte_of-k.result ≤ p → attr_of l p ≡ no_attr = λ p m. none-past a.t4 p (omega (arith, r)) (omega (arith, s)) (omega (arith, n)) (omega (arith, e)) in (
+    let l = attrs_of a.class in
+    let r : length a.class.kinds ≡ 8 = search rules in
+    let s : length a.class.sizes ≡ 8 = search rules in
+    let n : length a.class.lists ≡ 8 = search rules in
+    let e : c.byte_of-k.result ≡ min a.class.count 8 = c.byte_of-k.ensures in
+    let none : (p : ℕ) → c.byte_of-k.result ≤ p → attr_of l p ≡ no_attr = λ p m. none-past a.class p (omega (arith, r)) (omega (arith, s)) (omega (arith, n)) (omega (arith, e)) in (
       search rules,
       search rules,
       search rules,
       search rules,
-      sym (later-past a.t4 c.byte_of-k.result none),
-      fill_start (right_by l) a.h a.h a.shifts.now c.byte_of-k.result (λ i p m n. ap (λ (z : ℕ). min z 8) (later-past a.t4 (suc p) (λ q o. none q (omega arith)))),
+      sym (later-past a.class c.byte_of-k.result none),
+      fill_start (right_by l) a.h a.h a.shifts.now c.byte_of-k.result (λ i p m n. ap (λ (z : ℕ). min z 8) (later-past a.class (suc p) (λ q o. none q (omega arith)))),
       fill_start (own-by l) a.h a.h a.bits.now c.byte_of-k.result (λ i p m n. none-bits l p (none p m)),
     )
 
@@ -44,18 +44,18 @@ loop-k-preserved c =
     let t = c.loop-k in
     let a = c.args in
     let k = t.k - 1 in
-    let l = attrs_of a.t4 in
+    let l = attrs_of a.class in
     let e : t.k ≡ k + 1 = omega arith in
-    let low : k < a.t4.count = omega arith in
-    let own : c.bits_for-own.result ≡ bits_for (attr_at a.t4 k) = let f = c.bits_for-own.ensures (get_or a.t4.lists k 0) in cc in
+    let low : k < a.class.count = omega arith in
+    let own : c.bits_for-own.result ≡ bits_for (attr_at a.class k) = let f = c.bits_for-own.ensures (get_or a.class.lists k 0) in cc in
     let later : t.left ≡ width (drop (k + 1) l) = t.invariant.4 ∙ ap (λ (n : ℕ). width (drop n l)) e in
     let right : c.byte_of-right.result ≡ right_by l a.h k = c.byte_of-right.ensures ∙ right-at l k t.left later in
-    let bits : c.bits_for-own.result ≡ own-by l a.h k = own ∙ ap bits_for (sym (attr-at a.t4 k low)) in (
+    let bits : c.bits_for-own.result ≡ own-by l a.h k = own ∙ ap bits_for (sym (attr-at a.class k low)) in (
       search rules,
       search rules,
       search rules,
       search rules,
-      omega (arith, later_more a.t4 k low),
+      omega (arith, later_more a.class k low),
       fill-next (right_by l) a.h a.h _ t.k k c.byte_of-right.result c.byte_of-right.result _ _ (omega arith) (omega arith) t.invariant.5 e (omega arith) (λ n. right) right c.place.ensures,
       fill-next (own-by l) a.h a.h _ t.k k c.bits_for-own.result c.bits_for-own.result _ _ (omega arith) (omega arith) t.invariant.6 e (omega arith) (λ n. bits) bits c.place-in-loop-k.ensures,
     )
@@ -64,4 +64,4 @@ pub returns : goal.returns
 returns c =
     let a = c.args in
     let t = c.loop-k in
-    let l = attrs_of a.t4 in record { filling = fill_end (right_by l) a.h a.h _ t.k _ t.invariant.5 (omega arith); filling_2 = fill_end (own-by l) a.h a.h _ t.k _ t.invariant.6 (omega arith) }
+    let l = attrs_of a.class in record { filling = fill_end (right_by l) a.h a.h _ t.k _ t.invariant.5 (omega arith); filling_2 = fill_end (own-by l) a.h a.h _ t.k _ t.invariant.6 (omega arith) }

@@ -9,11 +9,11 @@ use borrow.Author.Rules.{rules}
 use Rattle.allowed.proofs.formula.says.Goals as goal
 
 pub returns-then-rules-f : goal.returns-then-rules-f
-returns-then-rules-f c = let a = c.args in sym (says_none a.t1 a.f a.holders (omega arith))
+returns-then-rules-f c = let a = c.args in sym (says_none a.rules a.f a.holders (omega arith))
 
 pub returns : goal.returns
 returns c =
     let a = c.args in
     c.holds.ensures
-    ∙ ap (λ (n : ℕ). holds (lists_of a.t1.classes) a.holders (nodes_of a.t1.nodes a.f n)) c.byte_at-n.ensures
-    ∙ sym (says_at a.t1 a.f a.holders (omega arith))
+    ∙ ap (λ (n : ℕ). holds (lists_of a.rules.classes) a.holders (nodes_of a.rules.nodes a.f n)) c.byte_at-n.ensures
+    ∙ sym (says_at a.rules a.f a.holders (omega arith))

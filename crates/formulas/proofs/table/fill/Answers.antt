@@ -27,13 +27,13 @@ sizes-by l i p = (attr_of l p).size
 pub loop-k-init : goal.loop-k-init
 loop-k-init c =
     let a = c.args in
-    let l = attrs_of a.t5 in
-    let r : length a.t5.kinds ≡ 8 = search rules in
-    let s : length a.t5.sizes ≡ 8 = search rules in
-    let n : length a.t5.lists ≡ 8 = search rules in
-    let e : c.byte_of-k.result ≡ min a.t5.count 8 = c.byte_of-k.ensures in
-    let none : (p : ℕ) → c.byte_of-k.result ≤ p → attr_of l p ≡ no_attr = λ p m. none-past a.t5 p (omega (arith, r)) (omega (arith, s)) (omega (arith, n)) (omega (arith, e)) in
-    let zero : width (drop c.byte_of-k.result l) ≡ 0 = later-past a.t5 c.byte_of-k.result none in (
+    let l = attrs_of a.class in
+    let r : length a.class.kinds ≡ 8 = search rules in
+    let s : length a.class.sizes ≡ 8 = search rules in
+    let n : length a.class.lists ≡ 8 = search rules in
+    let e : c.byte_of-k.result ≡ min a.class.count 8 = c.byte_of-k.ensures in
+    let none : (p : ℕ) → c.byte_of-k.result ≤ p → attr_of l p ≡ no_attr = λ p m. none-past a.class p (omega (arith, r)) (omega (arith, s)) (omega (arith, n)) (omega (arith, e)) in
+    let zero : width (drop c.byte_of-k.result l) ≡ 0 = later-past a.class c.byte_of-k.result none in (
       search rules,
       search rules,
       search rules,
@@ -63,24 +63,24 @@ loop-k-preserved c =
     let t = c.loop-k in
     let a = c.args in
     let k = t.k - 1 in
-    let l = attrs_of a.t5 in
+    let l = attrs_of a.class in
     let e : t.k ≡ k + 1 = omega arith in
-    let low : k < a.t5.count = omega arith in
-    let bits : c.bits_of-bits.result ≡ min (bits_for (attr_at a.t5 k)) 8 = let f = c.bits_of-bits.ensures (get_or a.t5.lists k 0) in cc in
+    let low : k < a.class.count = omega arith in
+    let bits : c.bits_of-bits.result ≡ min (bits_for (attr_at a.class k)) 8 = let f = c.bits_of-bits.ensures (get_or a.class.lists k 0) in cc in
     let left-x : t.x ≡ a.v / 2 ^ width (drop (k + 1) l) = t.invariant.5 ∙ ap (λ (n : ℕ). a.v / 2 ^ width (drop n l)) e in
     let left-y : t.y ≡ a.w / 2 ^ width (drop (k + 1) l) = t.invariant.6 ∙ ap (λ (n : ℕ). a.w / 2 ^ width (drop n l)) e in
-    let size : c.byte_at-size.result ≡ (attr_of l k).size = c.byte_at-size.ensures ∙ size-at a.t5 k low in (
+    let size : c.byte_at-size.result ≡ (attr_of l k).size = c.byte_at-size.ensures ∙ size-at a.class k low in (
       search rules,
       search rules,
       search rules,
       omega (arith, shr_le t.x c.bits_of-bits.result),
       omega (arith, shr_le t.y c.bits_of-bits.result),
-      left_at a.t5 a.v k t.x c.bits_of-bits.result low left-x t.invariant.3 bits,
-      left_at a.t5 a.w k t.y c.bits_of-bits.result low left-y t.invariant.4 bits,
+      left_at a.class a.v k t.x c.bits_of-bits.result low left-x t.invariant.3 bits,
+      left_at a.class a.w k t.y c.bits_of-bits.result low left-y t.invariant.4 bits,
       fill-next (values-by l a.h a.v a.w) a.g a.h _ t.k k c.last.result c.last-in-loop-k.result _ _ c.requires.1 c.requires.0 t.invariant.7 e (omega arith)
-          (λ n. c.last.ensures ∙ part_at a.t5 a.v k t.x c.bits_of-bits.result low left-x t.invariant.3 bits
+          (λ n. c.last.ensures ∙ part_at a.class a.v k t.x c.bits_of-bits.result low left-x t.invariant.3 bits
           ∙ ap (λ (z : Bool). part_of l k (cond z a.w a.v)) (sym (ne_eqb a.g a.h n)))
-          (c.last-in-loop-k.ensures ∙ part_at a.t5 a.w k t.y c.bits_of-bits.result low left-y t.invariant.4 bits
+          (c.last-in-loop-k.ensures ∙ part_at a.class a.w k t.y c.bits_of-bits.result low left-y t.invariant.4 bits
           ∙ ap (λ (z : Bool). part_of l k (cond z a.w a.v)) (sym (eq-eqb a.h a.h refl)))
           c.place.ensures,
       fill-next (sizes-by l) a.g a.h _ t.k k c.byte_at-size.result c.byte_at-size.result _ _ c.requires.1 c.requires.0 t.invariant.8 e (omega arith) (λ n. size) size c.place-in-loop-k.ensures,
@@ -90,4 +90,4 @@ pub returns : goal.returns
 returns c =
     let a = c.args in
     let t = c.loop-k in
-    let l = attrs_of a.t5 in record { filling = fill_end (values-by l a.h a.v a.w) a.g a.h _ t.k _ t.invariant.7 (omega arith); filling_2 = fill_end (sizes-by l) a.g a.h _ t.k _ t.invariant.8 (omega arith) }
+    let l = attrs_of a.class in record { filling = fill_end (values-by l a.h a.v a.w) a.g a.h _ t.k _ t.invariant.7 (omega arith); filling_2 = fill_end (sizes-by l) a.g a.h _ t.k _ t.invariant.8 (omega arith) }

@@ -15,15 +15,15 @@ use borrow.Author.Rules.{rules}
 use Rattle.planes.proofs.listed.narrow.Goals as goal
 
 -- the loop ends at bit n, or at bit 8 where n is above: there is nothing left of either
-go : (c : tie.After-loop invariant-loop decreases-loop) (v : ℕ) → v < 256 → Dec (8 < c.before.before.before.args.n) → eqb (v / 2 ^ c.before.loop.k) 0 ≡ eqb (v / 2 ^ c.before.before.before.args.n) 0
+go : (c : goal.After-loop-k) (v : ℕ) → v < 256 → Dec (8 < c.args.n) → eqb (v / 2 ^ c.loop-k.k) 0 ≡ eqb (v / 2 ^ c.args.n) 0
 go c v l (yes h) =
-    let n = c.before.before.before.args.n in
-    let k = c.before.loop.k in
-    let e : k ≡ 8 = c.before.loop.invariant.1 (omega arith) in
+    let n = c.args.n in
+    let k = c.loop-k.k in
+    let e : k ≡ 8 = c.loop-k.invariant.1 (omega arith) in
     ap (λ (k : ℕ). eqb (v / 2 ^ k) 0) e ∙ eq-eqb (v / 2 ^ 8) 0 (omega arith) ∙ sym (eq-eqb (v / 2 ^ n) 0 (div-eq_of_lt (omega (arith, pow_mono {i = 8} {j = n} (omega arith)))))
 go c v l (no h) =
-    let n = c.before.before.before.args.n in
-    let e : c.before.loop.k ≡ n = omega (arith, c.before.loop.invariant.2 (omega arith)) in
+    let n = c.args.n in
+    let e : c.loop-k.k ≡ n = omega (arith, c.loop-k.invariant.2 (omega arith)) in
     ap (λ (k : ℕ). eqb (v / 2 ^ k) 0) e
 
 pub loop-k-init : goal.loop-k-init

@@ -13,17 +13,16 @@ use Rattle.policy.proofs.NodeLaws.{or-false, or-never, names-barred, names-past,
 use Rattle.policy.proofs.nodes.named_by.Goals as goal
 
 -- the attribute's kind decides
-place : (c : tie.After-byte-at) (kind : ℕ)
-    → let a = c.before.before.before.before.before.before.before.before.before.args in
-    names (lists_of a.classes) a.f kind a.x ≡ eqb c.byte_at.result kind
+place : (c : goal.After-byte_at-kind) (kind : ℕ)
+    → let a = c.args in
+    names (lists_of a.classes) a.f kind a.x ≡ eqb c.byte_at-kind.result kind
 unfolding holder_of place_of
 place c kind =
-    let b = c.before.before.before in
-    let r = b.before.before.of-holder in
-    let u = b.before.before.before.before.may-use in
-    let a = b.before.before.before.before.before.before.args in
-    names-place (lists_of a.classes) a.f kind a.x r.result r.ensures (sym u.ensures ∙ not-false u.result b.before.before.before.if3.false) b.if4.false
-    ∙ ap (λ (k : ℕ). eqb k kind) (sym c.byte_at.ensures)
+    let r = c.of_holder-class in
+    let u = c.may_use in
+    let a = c.args in
+    names-place (lists_of a.classes) a.f kind a.x r.result r.ensures (sym u.ensures ∙ not-false u.result c.if-not-may_use.false) c.if-class-k.false
+    ∙ ap (λ (k : ℕ). eqb k kind) (sym c.byte_at-kind.ensures)
 
 pub returns-then-k-lt16 : goal.returns-then-k-lt16
 unfolding holder_of place_of

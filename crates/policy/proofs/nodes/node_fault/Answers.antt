@@ -20,13 +20,12 @@ refused : (ok agree : Bool) → ok ≡ false → fault_in false agree ≡ fault_
 refused ok agree e = sym (ap (λ (b : Bool). fault_in b agree) e)
 
 -- the operands' sorts say whether the node may stand there
-sound : (c : tie.After-takes-values) → let a = c.before.before.before.before.before.args in node_ok (lists_of a.classes) a.f a.i a.x ≡ c.takes-values.result
+sound : (c : goal.After-takes_values) → let a = c.args in node_ok (lists_of a.classes) a.f a.i a.x ≡ c.takes_values.result
 unfolding op_of first_of second_of
 sound c =
-    let q = c.before.named-by2 in
-    let p = c.before.before.Named-by in
-    let k = c.before.before.before in
-    let a = k.before.before.args in
+    let q = c.named_by-q in
+    let p = c.named_by-p in
+    let a = c.args in
     let op = op_of a.x in
     let l = lists_of a.classes in
     let s = p.result.sort in
@@ -35,45 +34,43 @@ sound c =
     let n₁ = names l a.f 1 (first_of a.x) in
     let a₂ = atomic l a.f (second_of a.x) in
     sym
-    (c.takes-values.ensures
-    ∙ ap (λ (z : Bool). compared op z (eqb s 1) (eqb t 0 || eqb t 2) (eqb t 1)) p.ensures.0
-    ∙ ap (λ (z : Bool). compared op a₁ z (eqb t 0 || eqb t 2) (eqb t 1)) p.ensures.1.0
-    ∙ ap (λ (z : Bool). compared op a₁ n₁ z (eqb t 1)) q.ensures.0
-    ∙ ap (λ (z : Bool). compared op a₁ n₁ a₂ z) q.ensures.1.0
-    ∙ sym (node-compared l a.f a.i a.x k.before.if1.false k.if3.false))
+    (c.takes_values.ensures
+    ∙ ap (λ (z : Bool). compared op z (eqb s 1) (eqb t 0 || eqb t 2) (eqb t 1)) p.ensures.sort_value
+    ∙ ap (λ (z : Bool). compared op a₁ z (eqb t 0 || eqb t 2) (eqb t 1)) p.ensures.sort_value_2
+    ∙ ap (λ (z : Bool). compared op a₁ n₁ z (eqb t 1)) q.ensures.sort_value
+    ∙ ap (λ (z : Bool). compared op a₁ n₁ a₂ z) q.ensures.sort_value_2
+    ∙ sym (node-compared l a.f a.i a.x c.if-op-le4.false c.if-op-gt10.false))
 
 -- it is one that compares
-agrees : (c : tie.After-takes-values) (b : Bool)
-    → let a = c.before.before.before.before.before.args in
+agrees : (c : goal.After-takes_values) (b : Bool)
+    → let a = c.args in
     same_list (lists_of a.classes) (first_of a.x) (second_of a.x) ≡ b → lists_agree (lists_of a.classes) a.x ≡ b
 unfolding op_of
 agrees c b e =
-    let k = c.before.before.before in
-    let a = k.before.before.args in
-    agree-compared (lists_of a.classes) a.x k.before.if1.false k.if3.false ∙ e
+    let a = c.args in
+    agree-compared (lists_of a.classes) a.x c.if-op-le4.false c.if-op-gt10.false ∙ e
 
 -- two attributes: their lists decide
-both : (c : tie.After-struct-known4)
-    → let t = c.before.before.before.before.before.before.before in let a = t.before.before.before.before.before.args in
+both : (c : goal.After-struct_known-4-1)
+    → let a = c.args in
     (node_ok (lists_of a.classes) a.f a.i a.x ≡ true)
-    × (same_list (lists_of a.classes) (first_of a.x) (second_of a.x) ≡ eqb t.before.before.Named-by.result.list t.before.named-by2.result.list)
+    × (same_list (lists_of a.classes) (first_of a.x) (second_of a.x) ≡ eqb c.named_by-p.result.list c.named_by-q.result.list)
 unfolding op_of first_of second_of
 both c =
-    let t = c.before.before.before.before.before.before.before in
-    let held = not-false t.takes-values.result c.before.before.before.before.before.before.if4.false in
-    let q = t.before.named-by2 in
-    let p = t.before.before.Named-by in
-    let a = t.before.before.before.before.before.args in
+    let held = not-false c.takes_values.result c.if-not-takes_values.false in
+    let q = c.named_by-q in
+    let p = c.named_by-p in
+    let a = c.args in
     let l = lists_of a.classes in
     let op = op_of a.x in
     let s₁ = p.result.sort in
     let s₂ = q.result.sort in
-    let ps = first-few op s₁ s₂ (eqb s₂ 0 || eqb s₂ 2) (eqb s₂ 1) (sym t.takes-values.ensures ∙ held) in
-    let qs = second-few op s₁ s₂ (eqb s₁ 0 || eqb s₁ 2) (eqb s₁ 1) (sym t.takes-values.ensures ∙ held) in
-    let np = c.before.before.before.before.if5.false in
-    let nq = c.before.before.if6.false in
-    let (hp, ep) = p.ensures.1.1.1 (omega arith) in
-    let (hq, eq) = q.ensures.1.1.1 (omega arith) in
+    let ps = first-few op s₁ s₂ (eqb s₂ 0 || eqb s₂ 2) (eqb s₂ 1) (sym c.takes_values.ensures ∙ held) in
+    let qs = second-few op s₁ s₂ (eqb s₁ 0 || eqb s₁ 2) (eqb s₁ 1) (sym c.takes_values.ensures ∙ held) in
+    let np = c.if-p-eq-CONSTANT.false in
+    let nq = c.if-q-eq-CONSTANT.false in
+    let (hp, ep) = p.ensures.fact (omega arith) in
+    let (hq, eq) = q.ensures.fact (omega arith) in
     (sound t ∙ held, same_lists l _ _ hp hq ∙ sym (ap (λ (n : ℕ). eqb n q.result.list) ep ∙ ap (λ (n : ℕ). eqb (named l (first_of a.x)).list n) eq))
 
 pub returns-then-takes_nodes : goal.returns-then-takes_nodes

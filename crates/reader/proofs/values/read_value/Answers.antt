@@ -17,12 +17,12 @@ use Rattle.reader.proofs.Value.{Partly, partly_none, partly-room, partly_more, p
 use Rattle.reader.proofs.values.read_value.Goals as goal
 
 -- there is room for a value of an attribute beside those so far
-room : (c : tie.After-bits-for invariant-loop decreases-loop) → let w = c.bits-for.result in (w ≤ 8) × (c.before.before.loop.v * 2 ^ w + 2 ^ w ≤ 256)
+room : (c : goal.After-bits_for-w) → let w = c.bits_for-w.result in (w ≤ 8) × (c.loop-i.v * 2 ^ w + 2 ^ w ≤ 256)
 unfolding attr_at
 room c =
-    let l = c.before.before.loop in
-    let a = c.before.before.before.before.before.before.before.args in
-    partly-room a.s.now (without_lists a.class) a.at l.p l.v l.i c.bits-for.result (omega arith) l.invariant.2 (c.bits-for.ensures 0)
+    let l = c.loop-i in
+    let a = c.args in
+    partly-room a.s.now (without_lists a.class) a.at l.p l.v l.i c.bits_for-w.result (omega arith) l.invariant.2 (c.bits_for-w.ensures 0)
 
 pub loop-i-init : goal.loop-i-init
 loop-i-init c =

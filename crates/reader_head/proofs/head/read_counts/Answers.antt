@@ -8,7 +8,7 @@ use Rattle.reader_head.specs.Parts.{head_of}
 use Rattle.reader_head.proofs.head.read_counts.Goals as goal
 
 -- the place after the fourth count
-place : (c : tie.After-read-field4) → c.read-field4.result.at.pos ≤ c.before.before.before.before.before.args.at.pos + 17
+place : (c : goal.After-read_field-d) → c.read_field-d.result.at.pos ≤ c.args.at.pos + 17
 place c = omega arith
 
 pub read_field-f-requires : goal.read_field-f-requires

@@ -13,14 +13,14 @@ use Rattle.reader_head.specs.Parts.{attr_of}
 use Rattle.reader_head.proofs.lists.read_attr.Goals as goal
 
 -- the judgement leaves the place as it is
-place : (c : tie.After-judged) → let t = c.before.before.before.before.take in c.judged.result.pos ≡ t.result.at.pos
+place : (c : goal.After-judged-listed) → let t = c.take-l in c.judged-listed.result.pos ≡ t.result.at.pos
 place c =
-    let t = c.before.before.before.before.take in
-    ap (λ (z : Cursor). z.pos) c.judged.ensures ∙ judged-pos t.result.at c.before.size-fits.result 18
+    let t = c.take-l in
+    ap (λ (z : Cursor). z.pos) c.judged-listed.ensures ∙ judged-pos t.result.at c.size_fits.result 18
 
 -- and takes nothing
-counted : (c : tie.After-judged) → let k = c.before.before.before.before in CountIsPlace k.before.before.before.before.before.before.args.s.now c.judged.result
-counted c = judged-count _ _ c.judged.ensures c.before.before.before.before.take.ensures.1.1
+counted : (c : goal.After-judged-listed) → CountIsPlace c.args.s.now c.judged-listed.result
+counted c = judged-count _ _ c.judged-listed.ensures c.take-l.ensures.count_is_place
 
 pub read_field-z-requires : goal.read_field-z-requires
 read_field-z-requires c =

@@ -20,24 +20,22 @@ use Rattle.policy.proofs.Laws.{attrs-none}
 use Rattle.reader_head.proofs.lists.read_class.Goals as goal
 
 -- the class that was read, judged, and the place after it
-read : (c : tie.After-judged)
-    → let k = c.before.before.before.before.before in let a = k.before.before.before.before.args in
-    res_of c.judged.result (attrs_of k.read-attrs.result.class) ≡ from a.at ((class_format a.known.now a.n).read a.s.now)
+read : (c : goal.After-judged-next)
+    → let a = c.args in
+    res_of c.judged-next.result (attrs_of c.read_attrs-r.result.class) ≡ from a.at ((class_format a.known.now a.n).read a.s.now)
 unfolding class_format
 read c =
-    let w = c.before in
-    let k = w.before.before.before.before in
-    let a = k.before.before.before.before.args in
-    ap (λ (x : Cursor). res_of x (attrs_of k.read-attrs.result.class)) c.judged.ensures
-    ∙ chain-check _ _ 5 a.s.now _ _ _ _ k.read-attrs.ensures.0 (ap (λ (x : ℕ). leb x 8) w.class-width.ensures.0) (omega arith)
+    let a = c.args in
+    ap (λ (x : Cursor). res_of x (attrs_of c.read_attrs-r.result.class)) c.judged-next.ensures
+    ∙ chain-check _ _ 5 a.s.now _ _ _ _ c.read_attrs-r.ensures.class_value (ap (λ (x : ℕ). leb x 8) c.class_width.ensures.value) (omega arith)
 
-place : (c : tie.After-judged) → c.judged.result.pos ≤ c.before.before.before.before.before.before.before.before.before.args.at.pos + 96
+place : (c : goal.After-judged-next) → c.judged-next.result.pos ≤ c.args.at.pos + 96
 place c =
-    let k = c.before.before.before.before.before.read-attrs in
-    omega (arith, ap (λ (x : Cursor). x.pos) c.judged.ensures, judged-pos k.result.at (leb c.before.class-width.result 8) 5, k.ensures.1.1.0.0)
+    let k = c.read_attrs-r in
+    omega (arith, ap (λ (x : Cursor). x.pos) c.judged-next.ensures, judged-pos k.result.at (leb c.class_width.result 8) 5, k.ensures.pos_bound.0)
 
-counted : (c : tie.After-judged) → CountIsPlace c.before.before.before.before.before.before.before.before.before.args.s.now c.judged.result
-counted c = judged-count _ _ c.judged.ensures c.before.before.before.before.before.read-attrs.ensures.1.1.1
+counted : (c : goal.After-judged-next) → CountIsPlace c.args.s.now c.judged-next.result
+counted c = judged-count _ _ c.judged-next.ensures c.read_attrs-r.ensures.count_is_place
 
 pub returns-then-next-ne0 : goal.returns-then-next-ne0
 unfolding width

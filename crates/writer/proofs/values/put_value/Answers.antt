@@ -16,24 +16,20 @@ use Rattle.writer.proofs.values.put_value.Goals as goal
 
 -- the attribute that was looked up is attribute i
 attr :
-    (c : tie.After-byte-at2 invariant-loop decreases-loop)
-    → let l = c.before.before.before.before.before in
-    let class = without_lists l.before.before.before.before.before.args.class in
-    ◌≡◌ {A = Attr} (record { kind = c.before.before.byte_at.result; size = c.byte-at2.result; list = 0 }) (attr_at class l.loop.i)
+    (c : goal.After-byte_at-size)
+    → let class = without_lists c.args.class in
+    ◌≡◌ {A = Attr} (record { kind = c.byte_at-kind.result; size = c.byte_at-size.result; list = 0 }) (attr_at class c.loop-i.i)
 unfolding attr_at
-attr c = rw (c.before.before.byte_at.ensures, c.byte-at2.ensures)
+attr c = rw (c.byte_at-kind.ensures, c.byte_at-size.ensures)
 
 -- what is left is as wide as it and the attributes after it
 wide :
-    (c : tie.After-bits-for invariant-loop decreases-loop)
-    → let l = c.before.before.before.before.before.before in
-    let class = without_lists l.before.before.before.before.before.args.class in
-    l.loop.rest ≡ c.bits-for.result + width (attrs_from class (l.loop.i + 1))
+    (c : goal.After-bits_for-w)
+    → let class = without_lists c.args.class in
+    c.loop-i.rest ≡ c.bits_for-w.result + width (attrs_from class (c.loop-i.i + 1))
 wide c =
-    let t = c.before.before.before.before.before in
-    let l = t.before in
-    let class = without_lists l.before.before.before.before.before.args.class in
-    omega (arith, c.bits-for.ensures 0, from-width class l.loop.i t.loop-test.true (attr c.before))
+    let class = without_lists c.args.class in
+    omega (arith, c.bits_for-w.ensures 0, from-width class c.loop-i.i c.loop-i-test.true (attr c))
 
 pub loop-i-init : goal.loop-i-init
 loop-i-init c =

@@ -93,7 +93,7 @@ module _ (m : Model) (start : State) where
 
   pub run-within : {s : State} → Within s → (ps : List Step) → Within (run m s ps)
   run-within {s} w [] = rw (run_end m s) w
-  run-within {s} w (p ∷ ps) = rw (run-next m s p ps) (run-within (same-within w (stepped m s p) (λ after e. carried-within w (stepped-carried m s p after e))) ps)
+  run-within {s} w (p ∷ ps) = rw (run-next m s p ps) (run-within {s = or_same s (stepped m s p)} (same-within w (stepped m s p) (λ after e. carried-within w (stepped-carried m s p after e))) ps)
 
   -- what stands after a run and is asked about is within what is asked about
   pub who-within : {s : State} → Within s → (who : Who) → AskedWho m start who → (k u v : ℕ) → session_at s k ≡ opened u v → IsWho who s k → WhoReach m start who u v

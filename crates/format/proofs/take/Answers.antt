@@ -73,15 +73,23 @@ returns-in-Value c =
     let f = is_field _ _ _ _ c.read_at-found.ensures c.in-Value.is in
     let e = there a.s.now a.at.pos a.w x f in
     let p = is-on _ _ _ _ c.read_at-found.ensures x f in
-    let n : a.at.taken + a.w ≡ c.read_at-found.result.at = omega (arith, p, o.count) in record { value = taken_is _ _ (res-good _ x refl ∙ ap (ok x) p ∙ sym (from-good a.at _ c.if-at-ne0.false ∙ e.1)) (λ h. absurd (omega arith)) n; near = record {
-          place = omega (arith, p);
-          fits = omega (arith, e.0, number_lt a.s.now a.at.pos a.w);
-          below = omega (arith, e.0, number_lt a.s.now a.at.pos a.w);
-        }; count_is_place = record { count = n; inside = omega (arith, p, e.2) } }
+    let n : a.at.taken + a.w ≡ c.read_at-found.result.at = omega (arith, p, o.count) in record {
+      value = taken_is _ _ (res-good _ x refl ∙ ap (ok x) p ∙ sym (from-good a.at _ c.if-at-ne0.false ∙ e.1)) (λ h. absurd (omega arith)) n;
+      near = record {
+        place = omega (arith, p);
+        fits = omega (arith, e.0, number_lt a.s.now a.at.pos a.w);
+        below = omega (arith, e.0, number_lt a.s.now a.at.pos a.w);
+      };
+      count_is_place = record { count = n; inside = omega (arith, p, e.2) };
+    }
 
 pub returns-in-Absent : goal.returns-in-Absent
 returns-in-Absent c =
     let a = c.args in
     let o = c.requires.2 in
-    let e = absent a.s.now a.at.pos a.w (is_field _ _ _ _ c.read_at-found.ensures c.in-Absent.is) in record { value = taken_is _ _ (res-bad _ _ (omega arith) ∙ ap (bad 1) (omega arith) ∙ sym (from-good a.at _ c.if-at-ne0.false ∙ e.1)) (λ _. refl)
-          (omega (arith, o.count, o.inside)); near = record { place = omega (arith, e.0); fits = pow_pos a.w; below = omega arith }; count_is_place = record { count = omega (arith, o.count, o.inside); inside = omega arith } }
+    let e = absent a.s.now a.at.pos a.w (is_field _ _ _ _ c.read_at-found.ensures c.in-Absent.is) in record {
+      value = taken_is _ _ (res-bad _ _ (omega arith) ∙ ap (bad 1) (omega arith) ∙ sym (from-good a.at _ c.if-at-ne0.false ∙ e.1)) (λ _. refl)
+          (omega (arith, o.count, o.inside));
+      near = record { place = omega (arith, e.0); fits = pow_pos a.w; below = omega arith };
+      count_is_place = record { count = omega (arith, o.count, o.inside); inside = omega arith };
+    }

@@ -31,7 +31,7 @@ returns-then-not-listed c =
     sym
     (read_none
     (item-unlisted (listed (attrs_of a.class)) a.cells.now a.next a.k s.result c.if-next-k.false s.ensures c.if-c-ne256.false
-    (sym l.ensures ∙ not-true l.result c.if-not-listed.true)))
+    (sym l.ensures ∙ c.if-not-listed.true)))
 
 pub returns : goal.returns
 returns c =
@@ -41,4 +41,4 @@ returns c =
     sym
     (read_some (s.result % 256)
     (item-marked (listed (attrs_of a.class)) a.cells.now a.next a.k s.result c.if-next-k.false s.ensures c.if-c-ne256.false
-    (sym l.ensures ∙ not-false l.result c.if-not-listed.false)))
+    (sym l.ensures ∙ c.if-not-listed.false)))

@@ -44,7 +44,7 @@ returns-then-not-listed c =
     ∙ sym
     (read-closed
     (session-unlisted a.users (listed (attrs_of a.class)) a.cells.now a.next a.k s.result c.if-next-k.false s.ensures
-    c.if-c-ne1.false c.if-users-user.false (sym l.ensures ∙ not-true l.result c.if-not-listed.true)))
+    c.if-c-ne1.false c.if-users-user.false (sym l.ensures ∙ c.if-not-listed.true)))
 
 pub returns : goal.returns
 returns c =
@@ -54,4 +54,4 @@ returns c =
     sym
     (read_opened (s.result / 256 % 256) (s.result % 256)
     (session-marked a.users (listed (attrs_of a.class)) a.cells.now a.next a.k s.result c.if-next-k.false s.ensures
-    c.if-c-ne1.false c.if-users-user.false (sym l.ensures ∙ not-false l.result c.if-not-listed.false)))
+    c.if-c-ne1.false c.if-users-user.false (sym l.ensures ∙ c.if-not-listed.false)))

@@ -16,7 +16,7 @@ returns-then-not-has c =
     let a = c.args in
     let has = c.has in record { links_after = cond-off _ _ _
           (ap (λ (b : Bool). b && some_below (unmet (model_by a.basis a.nodes.now).item_value (found_of a.head a.order.now a.links.now)) 256)
-          (sym has.ensures ∙ not-true has.result c.if-not-has.true)); modify_ready_2 = c.requires.modify_ready }
+          (sym has.ensures ∙ c.if-not-has.true)); modify_ready_2 = c.requires.modify_ready }
 
 pub returns-then-is_none : goal.returns-then-is_none
 returns-then-is_none c =
@@ -24,7 +24,7 @@ returns-then-is_none c =
     let a = c.args in
     let x = c.minus-unmet in
     let n = c.is_none in record { links_after = cond-off _ _ _
-          (ap₂ ◌&&◌ (sym has.ensures ∙ not-false has.result c.if-not-has.false)
+          (ap₂ ◌&&◌ (sym has.ensures ∙ c.if-not-has.false)
           (unmet-some (model_by a.basis a.nodes.now).item_value (found_of a.head a.order.now a.links.now) a.basis.items x.result c.requires.in_lists.items x.ensures n.result false n.ensures
           (ap not c.if-is_none.true))); modify_ready_2 = c.requires.modify_ready }
 
@@ -37,7 +37,7 @@ returns c =
     let v = 255 - a.k in
     let x = c.minus-unmet in
     let n = c.is_none in record { links_after = cond-on _ _ _
-          (ap₂ ◌&&◌ (sym has.ensures ∙ not-false has.result c.if-not-has.false)
+          (ap₂ ◌&&◌ (sym has.ensures ∙ c.if-not-has.false)
           (unmet-some m.item_value q a.basis.items x.result c.requires.in_lists.items x.ensures n.result true n.ensures (ap not c.if-is_none.false)))
           (c.spread.ensures
           ∙ spread-modifies q (a.i + 1) v x.result c.modified_to-row.result m v a.o (unmet-lanes m.item_value q a.basis.items x.result c.requires.in_lists.items x.ensures) c.modified_to-row.ensures.lanes); modify_ready_2 = c.modified_to-row.ensures.modify_ready }

@@ -4,16 +4,16 @@ use borrow.Author.Rules.{rules}
 use Rattle.judge.proofs.apply.Goals as goal
 
 pub returns-in-Nothing : goal.returns-in-Nothing
-returns-in-Nothing c = does-nothing _ _ _ next c.in-Nothing.is
+returns-in-Nothing c next = does-nothing _ _ _ next c.in-Nothing.is
 
 pub returns-then-place-sessions : goal.returns-then-place-sessions
-returns-then-place-sessions c = writes-session _ _ _ next c.in-Session.is
+returns-then-place-sessions c next = writes-session _ _ _ next c.in-Session.is
 
 pub returns-else-place-sessions : goal.returns-else-place-sessions
-returns-else-place-sessions c = session-past _ _ _ next c.in-Session.is c.if-place-sessions.false
+returns-else-place-sessions c next = session-past _ _ _ next c.in-Session.is c.if-place-sessions.false
 
 pub returns-then-place-items : goal.returns-then-place-items
-returns-then-place-items c = writes-item _ _ _ next c.in-Item.is
+returns-then-place-items c next = writes-item _ _ _ next c.in-Item.is
 
 pub returns-else-place-items : goal.returns-else-place-items
-returns-else-place-items c = item-past _ _ _ next c.in-Item.is c.if-place-items.false
+returns-else-place-items c next = item-past _ _ _ next c.in-Item.is c.if-place-items.false

@@ -48,7 +48,7 @@ returns-then-not-code_ok c =
     sym
     (t.invariant.3
     ∙ in-not d t.k t.rest (t.left - b) (omega arith) (omega (arith, left_at c))
-    (sym (code_at c) ∙ not-true c.code_ok.result c.if-not-code_ok.true))
+    (sym (code_at c) ∙ c.if-not-code_ok.true))
     ∙ in-any a.class a.v
 
 pub loop-k-preserved : goal.loop-k-preserved
@@ -63,7 +63,7 @@ loop-k-preserved c =
       w,
       t.invariant.3
           ∙ in_rest d t.k t.rest (t.left - b) (omega arith) w
-          (sym (code_at c) ∙ not-false c.code_ok.result c.if-not-code_ok.false)
+          (sym (code_at c) ∙ c.if-not-code_ok.false)
           ∙ ap (in_lists (drop (t.k + 1) (attrs_of d))) (sym c.low_bits-rest.ensures),
     )
 

@@ -17,7 +17,7 @@ use Rattle.lists.proofs.in_lists.Given as goal
 
 abbrev pub invariant-loop-k : goal.invariant-loop-k
 invariant-loop-k l =
-    let l = attrs_of record { count = l.k-end; l.kinds = l.kinds; l.sizes = l.sizes; lists = [] } in
+    let l = attrs_of record { count = l.k-end; kinds = l.kinds; sizes = l.sizes; lists = [] } in
     (l.k ≤ l.k-end) × (l.k-end ≤ 255) × (l.left ≡ width (drop l.k l)) × (in_lists l l.v ≡ in_lists (drop l.k l) l.rest)
 
 abbrev pub decreases-loop-k : goal.decreases-loop-k

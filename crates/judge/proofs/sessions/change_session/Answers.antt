@@ -12,7 +12,7 @@ use Rattle.judge.proofs.sessions.change_session.Goals as goal
 
 pub returns-then-not-held : goal.returns-then-not-held
 unfolding changing session_now
-returns-then-not-held c =
+returns-then-not-held c items =
     let a = c.args in
     let q = c.session_at-held in
     judges a.sessions.now items a.next a.rules a.row changing _ (gives _ _ _ c.refused.ensures)
@@ -20,7 +20,7 @@ returns-then-not-held c =
 
 pub returns-then-row-held : goal.returns-then-row-held
 unfolding changing session_now
-returns-then-row-held c =
+returns-then-row-held c items =
     let a = c.args in
     let q = c.session_at-held in
     let session = of-open (read-open q.result q.ensures c.if-not-held.false) _ _ in
@@ -29,7 +29,7 @@ returns-then-row-held c =
 
 pub returns-then-not-listed : goal.returns-then-not-listed
 unfolding changing session_now
-returns-then-not-listed c =
+returns-then-not-listed c items =
     let a = c.args in
     let q = c.session_at-held in
     let session = of-open (read-open q.result q.ensures c.if-not-held.false) _ _ in
@@ -43,7 +43,7 @@ overflow_cast-value c =
 
 pub returns-then-not-may_change : goal.returns-then-not-may_change
 unfolding changing session_now
-returns-then-not-may_change c =
+returns-then-not-may_change c items =
     let a = c.args in
     let q = c.session_at-held in
     let session = of-open (read-open q.result q.ensures c.if-not-held.false) _ _ in
@@ -54,7 +54,7 @@ returns-then-not-may_change c =
 
 pub returns : goal.returns
 unfolding changing session_now
-returns c =
+returns c items =
     let a = c.args in
     let q = c.session_at-held in
     let session = of-open (read-open q.result q.ensures c.if-not-held.false) _ _ in

@@ -10,14 +10,14 @@ use Rattle.judge.proofs.sessions.close_session.Goals as goal
 
 pub returns-then-row-ne0 : goal.returns-then-row-ne0
 unfolding closing session_now
-returns-then-row-ne0 c =
+returns-then-row-ne0 c items =
     let a = c.args in
     judges a.sessions.now items a.next a.rules a.row closing _ (gives _ _ _ c.refused.ensures)
     (fails (here (ne_eqb _ _ c.if-row-ne0.true)) _ _)
 
 pub returns-then-not-target : goal.returns-then-not-target
 unfolding closing session_now
-returns-then-not-target c =
+returns-then-not-target c items =
     let a = c.args in
     let h1 = eq-eqb _ _ c.if-row-ne0.false in
     let q = c.session_at-target in
@@ -26,7 +26,7 @@ returns-then-not-target c =
 
 pub returns-then-row-target : goal.returns-then-row-target
 unfolding closing session_now
-returns-then-row-target c =
+returns-then-row-target c items =
     let a = c.args in
     let h1 = eq-eqb _ _ c.if-row-ne0.false in
     let q = c.session_at-target in
@@ -36,7 +36,7 @@ returns-then-row-target c =
 
 pub returns : goal.returns
 unfolding closing session_now
-returns c =
+returns c items =
     let a = c.args in
     let h1 = eq-eqb _ _ c.if-row-ne0.false in
     let q = c.session_at-target in

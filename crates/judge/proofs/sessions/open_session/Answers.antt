@@ -10,14 +10,14 @@ use Rattle.judge.proofs.sessions.open_session.Goals as goal
 
 pub returns-then-users-row : goal.returns-then-users-row
 unfolding opening
-returns-then-users-row c =
+returns-then-users-row c items =
     let a = c.args in
     judges a.sessions.now items a.next a.rules a.row opening _ (gives _ _ _ c.refused.ensures)
     (fails (here (le-ltb _ _ c.if-users-row.true)) _ _)
 
 pub returns-then-not-is_next : goal.returns-then-not-is_next
 unfolding opening
-returns-then-not-is_next c =
+returns-then-not-is_next c items =
     let a = c.args in
     let h1 = lt-ltb _ _ c.if-users-row.false in
     judges a.sessions.now items a.next a.rules a.row opening _ (gives _ _ _ c.refused-then-not-is_next.ensures)
@@ -25,7 +25,7 @@ returns-then-not-is_next c =
 
 pub returns-then-not-listed : goal.returns-then-not-listed
 unfolding opening
-returns-then-not-listed c =
+returns-then-not-listed c items =
     let a = c.args in
     let h1 = lt-ltb _ _ c.if-users-row.false in
     let h2 = held c.is_next.ensures c.if-not-is_next.false in
@@ -34,7 +34,7 @@ returns-then-not-listed c =
 
 pub returns-then-not-is_left : goal.returns-then-not-is_left
 unfolding opening
-returns-then-not-is_left c =
+returns-then-not-is_left c items =
     let a = c.args in
     let h1 = lt-ltb _ _ c.if-users-row.false in
     let h2 = held c.is_next.ensures c.if-not-is_next.false in
@@ -48,7 +48,7 @@ overflow_cast-value c =
 
 pub returns-then-not-may_open : goal.returns-then-not-may_open
 unfolding opening
-returns-then-not-may_open c =
+returns-then-not-may_open c items =
     let a = c.args in
     let h1 = lt-ltb _ _ c.if-users-row.false in
     let h2 = held c.is_next.ensures c.if-not-is_next.false in
@@ -64,7 +64,7 @@ overflow_add-result c =
 
 pub returns : goal.returns
 unfolding opening
-returns c =
+returns c items =
     let a = c.args in
     let h1 = lt-ltb _ _ c.if-users-row.false in
     let h2 = held c.is_next.ensures c.if-not-is_next.false in

@@ -22,7 +22,7 @@ use Rattle.planes.proofs.listed.listed_word.Given as goal
 
 abbrev pub invariant-loop-k : goal.invariant-loop-k
 invariant-loop-k l =
-    let l = attrs_of record { count = l.initial.k; l.kinds = l.kinds; l.sizes = l.sizes; lists = [] } in
+    let l = attrs_of record { count = l.initial.k; kinds = l.kinds; sizes = l.sizes; lists = [] } in
     (l.k ≤ l.initial.k) × (l.initial.k ≤ 255) × (l.right ≤ 255 * (l.initial.k - l.k)) × (l.right ≡ width (drop l.k l)) × Told l.planes (λ v. in_lists (drop l.k l) (v % 2 ^ l.right)) l.r
 
 abbrev pub decreases-loop-k : goal.decreases-loop-k

@@ -6,7 +6,7 @@ use borrow.Author.Rules.{rules}
 use Rattle.planes.proofs.wide.alike.Goals as goal
 
 pub returns-then-o-eq0 : goal.returns-then-o-eq0
-returns-then-o-eq0 c = plain-alike c.args.o c.if-o-eq0.true w j
+returns-then-o-eq0 c e w j h = plain-alike c.args.o c.if-o-eq0.true w j
 
 pub returns : goal.returns
-returns c = let o = c.args.o in number-alike o (leb-true (o.shift + o.bits) 6 e) w j
+returns c e w j h = let o = c.args.o in number-alike o (leb-true (o.shift + o.bits) 6 e) w j

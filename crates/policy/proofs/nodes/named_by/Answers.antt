@@ -44,7 +44,7 @@ returns-then-not-may_use c =
     let a = c.args in
     let l = lists_of a.classes in
     let u = c.may_use in
-    let barred = sym u.ensures ∙ not-true u.result c.if-not-may_use.true in record { sort_value = sym (atomic-attribute l a.f a.x c.if-h-eq5.false ∙ names-barred l a.f 0 a.x barred); sort_value_2 = sym (names-barred l a.f 1 a.x barred); x_value = (λ z. absurd (omega arith)); fact = λ z. absurd (omega arith) }
+    let barred = sym u.ensures ∙ c.if-not-may_use.true in record { sort_value = sym (atomic-attribute l a.f a.x c.if-h-eq5.false ∙ names-barred l a.f 0 a.x barred); sort_value_2 = sym (names-barred l a.f 1 a.x barred); x_value = (λ z. absurd (omega arith)); fact = λ z. absurd (omega arith) }
 
 pub returns-then-class-k : goal.returns-then-class-k
 unfolding holder_of place_of
@@ -53,7 +53,7 @@ returns-then-class-k c =
     let u = c.may_use in
     let a = c.args in
     let l = lists_of a.classes in
-    let may = sym u.ensures ∙ not-false u.result c.if-not-may_use.false in
+    let may = sym u.ensures ∙ c.if-not-may_use.false in
     let past : (kind : ℕ) → names l a.f kind a.x ≡ false = λ kind. names-past l a.f kind a.x r.result r.ensures may c.if-class-k.true in record { sort_value = sym (atomic-attribute l a.f a.x c.if-h-eq5.false ∙ past 0); sort_value_2 = sym (past 1); x_value = (λ z. absurd (omega arith)); fact = λ z. absurd (omega arith) }
 
 pub returns-then-kind-gt-SET : goal.returns-then-kind-gt-SET

@@ -101,14 +101,14 @@ pub returns-then-not-takes_values : goal.returns-then-not-takes_values
 returns-then-not-takes_values c =
     let a = c.args in
     let l = lists_of a.classes in
-    refused (node_ok l a.f a.i a.x) (lists_agree l a.x) (sound t ∙ not-true c.takes_values.result c.if-not-takes_values.true)
+    refused (node_ok l a.f a.i a.x) (lists_agree l a.x) (sound t ∙ c.if-not-takes_values.true)
 
 pub returns-then-p-eq-CONSTANT : goal.returns-then-p-eq-CONSTANT
 unfolding first_of
 returns-then-p-eq-CONSTANT c =
     let p = c.named_by-p in
     let a = c.args in
-    number _ true _ true (sound t ∙ not-false c.takes_values.result c.if-not-takes_values.false)
+    number _ true _ true (sound t ∙ c.if-not-takes_values.false)
     (agrees t true (same_first (lists_of a.classes) _ _ (p.ensures.x_value c.if-p-eq-CONSTANT.true)))
 
 pub returns-then-q-eq-CONSTANT : goal.returns-then-q-eq-CONSTANT
@@ -116,7 +116,7 @@ unfolding second_of
 returns-then-q-eq-CONSTANT c =
     let q = c.named_by-q in
     let a = c.args in
-    number _ true _ true (sound t ∙ not-false c.takes_values.result c.if-not-takes_values.false)
+    number _ true _ true (sound t ∙ c.if-not-takes_values.false)
     (agrees t true (same_second (lists_of a.classes) _ _ (q.ensures.x_value c.if-q-eq-CONSTANT.true)))
 
 pub returns-then-p-q : goal.returns-then-p-q

@@ -17,20 +17,20 @@ pub returns-then-not-is_atomic : goal.returns-then-not-is_atomic
 returns-then-not-is_atomic c =
     let a = c.args in
     let v = c.is_atomic in
-    sym (none_first a.op (value a.first) (eqb a.first 1) (value a.second) (eqb a.second 1) c.if-op-le8.true (sym v.ensures ∙ not-true v.result c.if-not-is_atomic.true))
+    sym (none_first a.op (value a.first) (eqb a.first 1) (value a.second) (eqb a.second 1) c.if-op-le8.true (sym v.ensures ∙ c.if-not-is_atomic.true))
 
 pub returns-then-op-le7 : goal.returns-then-op-le7
 returns-then-op-le7 c =
     let a = c.args in
     let v = c.is_atomic in
     c.is_atomic-then-op-le7.ensures
-    ∙ sym (value-first a.op (value a.first) (eqb a.first 1) (value a.second) (eqb a.second 1) c.if-op-le7.true (sym v.ensures ∙ not-false v.result c.if-not-is_atomic.false))
+    ∙ sym (value-first a.op (value a.first) (eqb a.first 1) (value a.second) (eqb a.second 1) c.if-op-le7.true (sym v.ensures ∙ c.if-not-is_atomic.false))
 
 pub returns-then-op-le8 : goal.returns-then-op-le8
 returns-then-op-le8 c =
     let a = c.args in
     let v = c.is_atomic in
-    sym (value-second a.op (value a.first) (eqb a.first 1) (value a.second) (eqb a.second 1) (omega arith) (sym v.ensures ∙ not-false v.result c.if-not-is_atomic.false))
+    sym (value-second a.op (value a.first) (eqb a.first 1) (value a.second) (eqb a.second 1) (omega arith) (sym v.ensures ∙ c.if-not-is_atomic.false))
 
 pub returns-then-first-eq-SET : goal.returns-then-first-eq-SET
 returns-then-first-eq-SET c = let a = c.args in sym (set_first a.op (value a.first) (eqb a.first 1) (value a.second) (eqb a.second 1) c.if-op-le8.false (eq-eqb _ _ c.if-first-eq-SET.true))

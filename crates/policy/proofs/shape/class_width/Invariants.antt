@@ -11,7 +11,7 @@ use Rattle.policy.proofs.Laws.{cut, without_lists, attrs-none, attrs-next, width
 use Rattle.policy.proofs.shape.class_width.Given as goal
 
 abbrev pub invariant-loop-i : goal.invariant-loop-i
-invariant-loop-i l = (l.i ≤ l.n) × (l.w ≡ width (attrs_of record { count = l.i; l.kinds = l.kinds; l.sizes = l.sizes; lists = [] })) × (l.w ≤ 255 * l.i)
+invariant-loop-i l = (l.i ≤ l.n) × (l.w ≡ width (attrs_of record { count = l.i; kinds = l.kinds; sizes = l.sizes; lists = [] })) × (l.w ≤ 255 * l.i)
 
 abbrev pub decreases-loop-i : goal.decreases-loop-i
 decreases-loop-i l = l.n - l.i

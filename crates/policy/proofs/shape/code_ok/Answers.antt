@@ -33,13 +33,13 @@ shifted-out x k = go (dec_lt x (2 ^ k))
         ne_eqb (x / 2 ^ k) 0 (λ e. let h : x < 1 * 2 ^ k = (div-lt_iff_lt-mul (pow_pos k)).0 (omega arith) in omega arith) ∙ sym (le-ltb x (2 ^ k) (omega arith))
 
 pub returns-then-kind-eq0 : goal.returns-then-kind-eq0
-returns-then-kind-eq0 c = let a = c.args in sym (code-atomic a.kind a.size a.x n c.if-kind-eq0.true)
+returns-then-kind-eq0 c n = let a = c.args in sym (code-atomic a.kind a.size a.x n c.if-kind-eq0.true)
 
 pub returns-then-size-lt64 : goal.returns-then-size-lt64
-returns-then-size-lt64 c = let a = c.args in shifted-out a.x a.size ∙ sym (code-set a.kind a.size a.x n c.if-kind-eq0.false)
+returns-then-size-lt64 c n = let a = c.args in shifted-out a.x a.size ∙ sym (code-set a.kind a.size a.x n c.if-kind-eq0.false)
 
 pub returns-else-size-lt64 : goal.returns-else-size-lt64
-returns-else-size-lt64 c =
+returns-else-size-lt64 c n =
     let a = c.args in
     let h : 2 ^ 64 ≤ 2 ^ a.size = pow_mono c.if-size-lt64.false in
     sym (code-set a.kind a.size a.x n c.if-kind-eq0.false ∙ lt-ltb a.x (2 ^ a.size) (omega arith))

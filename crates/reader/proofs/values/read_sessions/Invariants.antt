@@ -20,7 +20,7 @@ use Rattle.reader.proofs.values.read_sessions.Given as goal
 abbrev pub invariant-loop-i : goal.invariant-loop-i
 invariant-loop-i l =
     (l.i ≤ l.i-end) × (l.i-end ≡ l.n) × (length l.list ≡ 32) × (length l.values ≡ 32) × (l.p.pos ≤ l.initial.p.pos + 12 * l.i)
-    × Reached (row l.users l.class) l.s l.n l.initial.p l.p (sessions_of record { count = l.i; l.users = l.list; l.values = l.values }) l.i × CountIsPlace l.s l.p
+    × Reached (row l.users l.class) l.s l.n l.initial.p l.p (sessions_of record { count = l.i; users = l.list; values = l.values }) l.i × CountIsPlace l.s l.p
 
 abbrev pub decreases-loop-i : goal.decreases-loop-i
 decreases-loop-i l = l.i-end - l.i

@@ -18,7 +18,7 @@ use Rattle.reader.proofs.values.read_value.Given as goal
 
 abbrev pub invariant-loop-i : goal.invariant-loop-i
 invariant-loop-i l =
-    (l.i ≤ l.i-end) × (l.i-end ≤ 8) × Partly l.s record { count = l.i-end; l.kinds = l.kinds; l.sizes = l.sizes; lists = [] } l.initial.p l.p l.v l.i × CountIsPlace l.s l.p
+    (l.i ≤ l.i-end) × (l.i-end ≤ 8) × Partly l.s record { count = l.i-end; kinds = l.kinds; sizes = l.sizes; lists = [] } l.initial.p l.p l.v l.i × CountIsPlace l.s l.p
 
 abbrev pub decreases-loop-i : goal.decreases-loop-i
 decreases-loop-i l = l.i-end - l.i

@@ -20,7 +20,7 @@ use Rattle.reader_head.proofs.lists.read_attrs.Given as goal
 
 abbrev pub invariant-loop-i : goal.invariant-loop-i
 invariant-loop-i l =
-    let l = attrs_of record { count = l.i; l.kinds = l.kinds; l.sizes = l.sizes; l.lists = l.lists } in
+    let l = attrs_of record { count = l.i; kinds = l.kinds; sizes = l.sizes; lists = l.lists } in
     (l.i ≤ l.i-end) × (l.i-end ≡ l.n) × (length l.kinds ≡ 8) × (length l.sizes ≡ 8) × (length l.lists ≡ 8) × (length l.known ≡ length l.initial.known) × (l.p.pos ≤ l.initial.p.pos + 12 * l.i)
     × (l.known ≡ sizes_after l.initial.known l) × Reached (row l.initial.known) l.s l.n l.initial.p l.p l l.i × CountIsPlace l.s l.p
 

@@ -5,10 +5,10 @@ use borrow.Author.Rules.{rules}
 use Rattle.replay.proofs.fits.who_fits.Goals as goal
 
 pub returns-then-q-eq-SESSION : goal.returns-then-q-eq-SESSION
-returns-then-q-eq-SESSION c = sym (session-fits _ _ _ (who-session _ c.if-q-eq-SESSION.true))
+returns-then-q-eq-SESSION c items = sym (session-fits _ _ _ (who-session _ c.if-q-eq-SESSION.true))
 
 pub returns-then-held : goal.returns-then-held
-returns-then-held c =
+returns-then-held c items =
     let a = c.args in
     sym
     (user-fits _ _ _ (who-user _ c.if-q-eq-SESSION.false c.if-q-eq-USER.true)
@@ -16,7 +16,7 @@ returns-then-held c =
     ∙ rw c.if-held.true refl)
 
 pub returns-then-q-eq-USER : goal.returns-then-q-eq-USER
-returns-then-q-eq-USER c =
+returns-then-q-eq-USER c items =
     let a = c.args in
     sym
     (user-fits _ _ _ (who-user _ c.if-q-eq-SESSION.false c.if-q-eq-USER.true)
@@ -24,4 +24,4 @@ returns-then-q-eq-USER c =
     ∙ rw c.if-held.false refl)
 
 pub returns : goal.returns
-returns c = sym (anyone-fits _ _ _ (who-anyone _ c.if-q-eq-SESSION.false c.if-q-eq-USER.false))
+returns c items = sym (anyone-fits _ _ _ (who-anyone _ c.if-q-eq-SESSION.false c.if-q-eq-USER.false))

@@ -13,7 +13,7 @@ use Rattle.starting.proofs.put.put_items.Given as goal
 abbrev pub invariant-loop-k : goal.invariant-loop-k
 invariant-loop-k l =
     (l.k ≤ l.k-end) × (l.k-end ≤ length l.initial.cells) × (length l.cells ≡ length l.initial.cells)
-    × (l.cells ≡ over (item_cells (values_of record { count = l.k; l.values = l.values })) l.initial.cells)
+    × (l.cells ≡ over (item_cells (values_of record { count = l.k; values = l.values })) l.initial.cells)
 
 abbrev pub decreases-loop-k : goal.decreases-loop-k
 decreases-loop-k l =

@@ -13,7 +13,7 @@ use Rattle.starting.proofs.put.put_sessions.Given as goal
 abbrev pub invariant-loop-i : goal.invariant-loop-i
 invariant-loop-i l =
     (l.i ≤ l.i-end) × (l.i-end ≤ length l.initial.cells) × (length l.cells ≡ length l.initial.cells)
-    × (l.cells ≡ over (session_cells (sessions_of record { count = l.i; l.users = l.users; l.values = l.values })) l.initial.cells)
+    × (l.cells ≡ over (session_cells (sessions_of record { count = l.i; users = l.users; values = l.values })) l.initial.cells)
 
 abbrev pub decreases-loop-i : goal.decreases-loop-i
 decreases-loop-i l =

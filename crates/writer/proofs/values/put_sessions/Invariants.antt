@@ -16,7 +16,7 @@ use Rattle.writer.proofs.values.put_sessions.Given as goal
 abbrev pub invariant-loop-i : goal.invariant-loop-i
 invariant-loop-i l =
     (l.i ≤ l.i-end) × (length l.out ≡ length l.initial.out) × (l.p.pos ≤ l.initial.p.pos + 65029 * l.i)
-    × Stores (rows l.i (λ _. session_format l.users (attrs_of l.class))) (sessions_of record { count = l.i; l.users = l.list; l.values = l.values }) l.initial.out l.out l.initial.p l.p
+    × Stores (rows l.i (λ _. session_format l.users (attrs_of l.class))) (sessions_of record { count = l.i; users = l.list; values = l.values }) l.initial.out l.out l.initial.p l.p
 
 abbrev pub decreases-loop-i : goal.decreases-loop-i
 decreases-loop-i l = l.i-end - l.i

@@ -16,7 +16,7 @@ use Rattle.writer.proofs.values.put_value.Given as goal
 
 abbrev pub invariant-loop-i : goal.invariant-loop-i
 invariant-loop-i l =
-    let class : Class = record { count = l.i-end; l.kinds = l.kinds; l.sizes = l.sizes; lists = [] } in
+    let class : Class = record { count = l.i-end; kinds = l.kinds; sizes = l.sizes; lists = [] } in
     (l.i ≤ l.i-end) × (length l.out ≡ length l.initial.out) × (l.p.pos ≤ l.initial.p.pos + 255 * l.i) × (l.rest ≡ width (attrs_from class l.i)) × Onward class l.initial.x l.initial.out l.initial.p l.i l.x l.out l.p
 
 abbrev pub decreases-loop-i : goal.decreases-loop-i

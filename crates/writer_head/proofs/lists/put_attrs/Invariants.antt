@@ -16,8 +16,8 @@ use Rattle.writer_head.proofs.lists.put_attrs.Given as goal
 abbrev pub invariant-loop-i : goal.invariant-loop-i
 invariant-loop-i l =
     (l.i ≤ l.i-end) × (length l.out ≡ length l.initial.out) × (length l.known ≡ length l.initial.known) × (l.p.pos ≤ l.initial.p.pos + 12 * l.i)
-    × (l.known ≡ sizes_after l.initial.known (attrs_of record { count = l.i; l.kinds = l.kinds; l.sizes = l.sizes; l.lists = l.lists }))
-    × Stores (rows l.i (λ l. attr_format (sizes_after l.initial.known l))) (attrs_of record { count = l.i; l.kinds = l.kinds; l.sizes = l.sizes; l.lists = l.lists }) l.initial.out l.out l.initial.p l.p
+    × (l.known ≡ sizes_after l.initial.known (attrs_of record { count = l.i; kinds = l.kinds; sizes = l.sizes; lists = l.lists }))
+    × Stores (rows l.i (λ l. attr_format (sizes_after l.initial.known l))) (attrs_of record { count = l.i; kinds = l.kinds; sizes = l.sizes; lists = l.lists }) l.initial.out l.out l.initial.p l.p
 
 abbrev pub decreases-loop-i : goal.decreases-loop-i
 decreases-loop-i l = l.i-end - l.i

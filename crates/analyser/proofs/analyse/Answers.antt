@@ -18,22 +18,6 @@ use Rattle.analyser.proofs.Refusals.{gives-number}
 use borrow.Author.Rules.{rules}
 use Rattle.analyser.proofs.analyse.Goals as goal
 
--- the rules were read, and an area is enough for them
-module _ (w : goal.After-widest-w) where
-  accepted : reading w.args.file.now ≡ rules (policy_of w.read_rules-parsed.result.rules)
-  accepted =
-      let q = w.read_rules-parsed in
-      was-accepted w.args.file.now q.result.answer (policy_of q.result.rules) q.ensures.rules_value w.in-Accepted.is
-
-  sound : Sound (policy_of w.read_rules-parsed.result.rules)
-  sound = file-sound _ _ accepted
-
-  enough : (n : ℕ) → w.widest-w.result ≤ n → (area : List ℕ) → 4 * (193 + 64 * 2 ^ n) ≤ length area
-      → (b : Basis) (steps : List ℕ) → BasisOf w.read_rules-parsed.result.rules b → 192 ≤ length steps → Scratch b steps area
-  enough n narrow area large b steps B long =
-      let (u, s, i) = w.widest-w.ensures in
-      scratch-wide _ b steps area n B sound (omega (arith, u)) (omega (arith, s)) (omega (arith, i)) long large
-
 pub returns-in-Refused : goal.returns-in-Refused
 returns-in-Refused c =
     let q = c.read_rules-parsed in
@@ -42,19 +26,42 @@ returns-in-Refused c =
     gives-number _ _ _ _ _ c.refused.ensures (refused-file-is-told _ _ _ _ e)
 
 pub answer_in-requires : goal.answer_in-requires
-answer_in-requires c = record { file_value = accepted w; scratch = enough w 2 c.if-w-le2.taken _ (omega arith) }
+answer_in-requires c =
+    let accepted : reading c.args.file.now ≡ rules (policy_of c.read_rules-parsed.result.rules) =
+    let q = c.read_rules-parsed in
+    was-accepted c.args.file.now q.result.answer (policy_of q.result.rules) q.ensures.rules_value c.in-Accepted.is in
+    let sound : Sound (policy_of c.read_rules-parsed.result.rules) =
+    file-sound _ _ accepted in
+    let enough : (n : ℕ) → c.widest-w.result ≤ n → (area : List ℕ) → 4 * (193 + 64 * 2 ^ n) ≤ length area
+    → (b : Basis) (steps : List ℕ) → BasisOf c.read_rules-parsed.result.rules b → 192 ≤ length steps → Scratch b steps area =
+    λ n. λ narrow. λ area. λ large. λ b. λ steps. λ B. λ long. let (u, s, i) = c.widest-w.ensures in
+    scratch-wide _ b steps area n B sound (omega (arith, u)) (omega (arith, s)) (omega (arith, i)) long large in record { file_value = accepted; scratch = enough 2 c.if-w-le2.taken _ (omega arith) }
 
 pub returns-then-w-le2 : goal.returns-then-w-le2
 returns-then-w-le2 c = c.answer_in.ensures
 
 pub answer_in-requires-then-w-le5 : goal.answer_in-requires-then-w-le5
-answer_in-requires-then-w-le5 c = record { file_value = accepted w; scratch = enough w 5 c.if-w-le5.taken _ (omega arith) }
+answer_in-requires-then-w-le5 c =
+    let accepted : reading c.args.file.now ≡ rules (policy_of c.read_rules-parsed.result.rules) =
+    let q = c.read_rules-parsed in
+    was-accepted c.args.file.now q.result.answer (policy_of q.result.rules) q.ensures.rules_value c.in-Accepted.is in
+    let sound : Sound (policy_of c.read_rules-parsed.result.rules) =
+    file-sound _ _ accepted in
+    let enough : (n : ℕ) → c.widest-w.result ≤ n → (area : List ℕ) → 4 * (193 + 64 * 2 ^ n) ≤ length area
+    → (b : Basis) (steps : List ℕ) → BasisOf c.read_rules-parsed.result.rules b → 192 ≤ length steps → Scratch b steps area =
+    λ n. λ narrow. λ area. λ large. λ b. λ steps. λ B. λ long. let (u, s, i) = c.widest-w.ensures in
+    scratch-wide _ b steps area n B sound (omega (arith, u)) (omega (arith, s)) (omega (arith, i)) long large in record { file_value = accepted; scratch = enough 5 c.if-w-le5.taken _ (omega arith) }
 
 pub returns-then-w-le5 : goal.returns-then-w-le5
 returns-then-w-le5 c = c.answer_in-then-w-le5.ensures
 
 pub answer_in-requires-2 : goal.answer_in-requires-2
-answer_in-requires-2 c = record { file_value = accepted w; scratch = λ b steps B long. scratch-any _ b steps _ B (sound w) long (search rules) }
+answer_in-requires-2 c =
+    let accepted : reading c.args.file.now ≡ rules (policy_of c.read_rules-parsed.result.rules) =
+    let q = c.read_rules-parsed in
+    was-accepted c.args.file.now q.result.answer (policy_of q.result.rules) q.ensures.rules_value c.in-Accepted.is in
+    let sound : Sound (policy_of c.read_rules-parsed.result.rules) =
+    file-sound _ _ accepted in record { file_value = accepted; scratch = λ b steps B long. scratch-any _ b steps _ B (sound) long (search rules) }
 
 pub returns : goal.returns
 returns c = c.answer_in-2.ensures

@@ -5,17 +5,14 @@ use native.Mathlib.Omega.{arith}
 use borrow.Author.Rules.{rules}
 use Rattle.analyser.proofs.widest.Goals as goal
 
--- the wider of the first two
-wider : (t : goal.Joined-u-s) → (t.class_width-u.result ≤ t.if-u-s.m) × (t.class_width-s.result ≤ t.if-u-s.m)
-wider t =
+pub returns-then-m-o : goal.returns-then-m-o
+returns-then-m-o c =
+    let wider : (c.class_width-u.result ≤ c.if-u-s.m) × (c.class_width-s.result ≤ c.if-u-s.m) =
     ⊎_elim
     (λ z. (omega (arith, z.0.taken, z.1), omega (arith, z.0.taken, z.1)))
     (λ z. (omega (arith, z.0.left, z.1), omega (arith, z.0.left, z.1)))
-    t.if-u-s.branch
-
-pub returns-then-m-o : goal.returns-then-m-o
-returns-then-m-o c =
-    let (u, s) = wider t in (
+    c.if-u-s.branch in
+    let (u, s) = wider in (
       omega (arith, u, c.if-m-o.true, c.class_width-u.ensures.value),
       omega (arith, s, c.if-m-o.true, c.class_width-s.ensures.value),
       omega (arith, c.class_width-o.ensures.value),
@@ -23,7 +20,12 @@ returns-then-m-o c =
 
 pub returns-else-m-o : goal.returns-else-m-o
 returns-else-m-o c =
-    let (u, s) = wider t in (
+    let wider : (c.class_width-u.result ≤ c.if-u-s.m) × (c.class_width-s.result ≤ c.if-u-s.m) =
+    ⊎_elim
+    (λ z. (omega (arith, z.0.taken, z.1), omega (arith, z.0.taken, z.1)))
+    (λ z. (omega (arith, z.0.left, z.1), omega (arith, z.0.left, z.1)))
+    c.if-u-s.branch in
+    let (u, s) = wider in (
       omega (arith, u, c.class_width-u.ensures.value),
       omega (arith, s, c.class_width-s.ensures.value),
       omega (arith, c.if-m-o.false, c.class_width-o.ensures.value),

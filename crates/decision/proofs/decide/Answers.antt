@@ -11,17 +11,6 @@ use Rattle.decision.proofs.Decided.{place-shallow, decided-safe, decided-leak}
 use borrow.Author.Rules.{rules, elem_fits_field}
 use Rattle.decision.proofs.decide.Goals as goal
 
-few-items : (s : goal.Start) → s.args.rules.items.count < 256
-few-items s = s.well_formed.0.1.1.1.1.1.0.1.1.0.1
-
-byte-item : (s : goal.Start) → s.args.q.item < 256
-byte-item s = search rules
-
-byte-values : (s : goal.Start) (k : ℕ) → get_or s.args.rules.items.values k 0 < 256
-byte-values s k =
-    let f : Fits w8 (get_or s.args.rules.items.values k 0) = elem_fits_field w8 w8 s.args.rules.items.values _ k s.well_formed.0.1.1.1.1.1.0.1.1.1.0.1.1 tt in
-    omega arith
-
 pub item_values-items-requires : goal.item_values-items-requires
 item_values-items-requires c = record { in_lists = basis-lists c.args.rules c.args.basis c.requires.basis_of; scratch = c.requires.scratch }
 
@@ -52,10 +41,17 @@ returns-then-hit-ge256 c =
 
 pub write_rows-end-requires : goal.write_rows-end-requires
 write_rows-end-requires c =
+    let few-items : c.args.rules.items.count < 256 =
+    c.well_formed.0.1.1.1.1.1.0.1.1.0.1 in
+    let byte-item : c.args.q.item < 256 =
+    search rules in
+    let byte-values : (k : ℕ) → get_or c.args.rules.items.values k 0 < 256 =
+    λ k. let f : Fits w8 (get_or c.args.rules.items.values k 0) = elem_fits_field w8 w8 c.args.rules.items.values _ k c.well_formed.0.1.1.1.1.1.0.1.1.1.0.1.1 tt in
+    omega arith in
     let a = c.args in
     place-shallow a.rules _ a.q _ (basis-model a.rules a.basis c.requires.basis_of) c.helpers-helpers.result c.item_values-items.result c.session_values-own.result c.who_values-who.result
     c.first_hit-hit.result c.helpers-helpers.ensures c.item_values-items.ensures c.session_values-own.ensures c.who_values-who.ensures c.first_hit-hit.ensures
-    (byte-item s) (few-items s) (byte-values s) (omega (arith, c.if-hit-ge256.false))
+    (byte-item) (few-items) (byte-values) (omega (arith, c.if-hit-ge256.false))
 
 pub shape_of-area : goal.shape_of-area
 shape_of-area c = c.first_hit-hit.auto.area ∙ c.session_values-own.auto.area ∙ c.item_values-items.auto.area

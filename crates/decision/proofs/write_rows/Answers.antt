@@ -6,13 +6,12 @@ use Rattle.decision.proofs.Decided.{leak-left}
 use borrow.Author.Rules.{rules}
 use Rattle.decision.proofs.write_rows.Goals as goal
 
-few-sessions : (s : goal.Start) → s.args.starting.count < 256
-few-sessions s = search rules
-
 pub write_leak-end-requires : goal.write_leak-end-requires
 write_leak-end-requires c =
+    let few-sessions : c.args.starting.count < 256 =
+    search rules in
     let pen = c.first_pen-pen in
-    (omega (arith, pen.ensures.at), omega (arith, pen.ensures.next, sessions-length c.args.starting, few-sessions s), c.requires)
+    (omega (arith, pen.ensures.at), omega (arith, pen.ensures.next, sessions-length c.args.starting, few-sessions), c.requires)
 
 pub returns : goal.returns
 returns c =

@@ -8,10 +8,6 @@ use Rattle.host_steps.proofs.Laws.{step-unread, step-told}
 use borrow.Author.Rules.{rules}
 use Rattle.host_steps.proofs.step.Goals as goal
 
--- the rules that were read are the file's
-accepted : (c : goal.After-step_at-s) → reading c.args.file.now ≡ rules (policy_of c.read_rules-p.result.rules)
-accepted c = was-accepted _ _ _ c.read_rules-p.ensures.rules_value c.in-Accepted.is
-
 pub returns-in-Refused : goal.returns-in-Refused
 returns-in-Refused c =
     let q = c.read_rules-p in
@@ -21,7 +17,9 @@ returns-in-Refused c =
 
 pub returns-in-Accepted : goal.returns-in-Accepted
 returns-in-Accepted c =
+    let accepted : reading c.args.file.now ≡ rules (policy_of c.read_rules-p.result.rules) =
+    was-accepted _ _ _ c.read_rules-p.ensures.rules_value c.in-Accepted.is in
     let q = c.read_rules-p in
     let a = c.args in
     let s = lent_as a.sessions.now a.items.now record { session = a.session.now; item = a.item.now } in
-    let x = leaves c.step_at-s.result.outcome c.step_at-s.result.next c.step_at-s.last.1.0 c.step_at-s.last.1.1.0 in let both = step-told (reading a.file.now) (policy_of q.result.rules) (accepted k) s a.row x c.step_at-s.ensures _ c.number_of.ensures in record { value = both.0; item_after = both.1 }
+    let x = leaves c.step_at-s.result.outcome c.step_at-s.result.next c.step_at-s.last.1.0 c.step_at-s.last.1.1.0 in let both = step-told (reading a.file.now) (policy_of q.result.rules) (accepted) s a.row x c.step_at-s.ensures _ c.number_of.ensures in record { value = both.0; item_after = both.1 }

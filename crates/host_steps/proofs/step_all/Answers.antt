@@ -9,10 +9,6 @@ use Rattle.host_steps.proofs.Laws.{steps-unread, steps-told}
 use borrow.Author.Rules.{rules}
 use Rattle.host_steps.proofs.step_all.Goals as goal
 
--- the rules that were read are the file's
-accepted : (c : goal.After-steps_at-ran) → reading c.args.file.now ≡ rules (policy_of c.read_rules-p.result.rules)
-accepted c = was-accepted _ _ _ c.read_rules-p.ensures.rules_value c.in-Accepted.is
-
 pub returns-in-Refused : goal.returns-in-Refused
 returns-in-Refused c =
     let q = c.read_rules-p in
@@ -22,7 +18,9 @@ returns-in-Refused c =
 
 pub returns-in-Accepted : goal.returns-in-Accepted
 returns-in-Accepted c =
+    let accepted : reading c.args.file.now ≡ rules (policy_of c.read_rules-p.result.rules) =
+    was-accepted _ _ _ c.read_rules-p.ensures.rules_value c.in-Accepted.is in
     let q = c.read_rules-p in
     let a = c.args in
     let s = lent_as a.sessions.now a.items.now record { session = a.session.now; item = a.item.now } in
-    let x : Ran = record { refusal = refusal_of c.steps_at-ran.result.outcome; lent = lent_as c.steps_at-ran.last.1.0 c.steps_at-ran.last.1.1.0 c.steps_at-ran.result.next; count = c.steps_at-ran.result.count } in let both = steps-told (reading a.file.now) (policy_of q.result.rules) (accepted k) s a.rows.now x c.steps_at-ran.ensures _ c.number_of.ensures in record { value = both.0; item_after = both.1.0; done_after = both.1.1 }
+    let x : Ran = record { refusal = refusal_of c.steps_at-ran.result.outcome; lent = lent_as c.steps_at-ran.last.1.0 c.steps_at-ran.last.1.1.0 c.steps_at-ran.result.next; count = c.steps_at-ran.result.count } in let both = steps-told (reading a.file.now) (policy_of q.result.rules) (accepted) s a.rows.now x c.steps_at-ran.ensures _ c.number_of.ensures in record { value = both.0; item_after = both.1.0; done_after = both.1.1 }

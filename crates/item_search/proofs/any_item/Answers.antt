@@ -21,14 +21,6 @@ use Rattle.item_search.proofs.Laws.{each_fewer}
 use borrow.Author.Rules.{rules, elem_fits_field}
 use Rattle.item_search.proofs.any_item.Goals as goal
 
--- the starting items' values are bytes
-byte-values : (s : goal.Start) (j : ℕ) → j < length (values_of s.args.items) → get_or (values_of s.args.items) j 0 < 256
-byte-values s j h =
-    let v = s.args.items in
-    let f : Fits w8 (get_or v.values j 0) = elem_fits_field w8 w8 v.values _ j s.well_formed.1.1.1.1.1.0.1.1.1.0.1.1 tt in
-    let l : j < v.count = omega (arith, values_length v) in
-    omega (arith, value-at v j l)
-
 pub asked-begun-requires : goal.asked-begun-requires
 asked-begun-requires c =
     let a = c.args in record { long = search rules; in_lists = c.requires.in_lists; scratch = c.requires.scratch; had = ready-had (model_by a.basis a.nodes.now) a.helpers a.basis.sessions c.ready_of-ready.result c.requires.in_lists.sessions c.ready_of-ready.ensures }
@@ -46,6 +38,11 @@ shape_of-steps c = c.grow-head.auto.steps ∙ c.asked-begun.auto.steps
 
 pub returns : goal.returns
 returns c =
+    let byte-values : (j : ℕ) → j < length (values_of c.args.items) → get_or (values_of c.args.items) j 0 < 256 =
+    λ j. λ h. let v = c.args.items in
+    let f : Fits w8 (get_or v.values j 0) = elem_fits_field w8 w8 v.values _ j c.well_formed.1.1.1.1.1.0.1.1.1.0.1.1 tt in
+    let l : j < v.count = omega (arith, values_length v) in
+    omega (arith, value-at v j l) in
     let a = c.args in
     let m = model_by a.basis a.nodes.now in
     let h = ready_of m (lane_of a.helpers) in
@@ -57,4 +54,4 @@ returns c =
     (c.asked-begun.ensures ∙ ready-asked m a.helpers a.basis.sessions ready.result c.requires.in_lists.sessions ready.ensures _ 256
     ∙ ap (λ (q : Found). asked m h q 256)
     (c.starting-start.ensures ∙ ap (λ (q : Found). start_roots vs q a.items.count) (lent_nothing c.empty.ensures) ∙ ap (start_roots vs nothing) (sym (values_length a.items))))
-    ∙ any-fewer m (lane_of a.helpers) (lane_of few.result) (each_fewer a.basis a.nodes.now a.helpers ready.result few.result c.requires.in_lists ready.ensures few.ensures) vs (byte-values s)
+    ∙ any-fewer m (lane_of a.helpers) (lane_of few.result) (each_fewer a.basis a.nodes.now a.helpers ready.result few.result c.requires.in_lists ready.ensures few.ensures) vs (byte-values)

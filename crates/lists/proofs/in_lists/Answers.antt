@@ -15,55 +15,62 @@ use Rattle.lists.specs.Lists.{in_lists}
 use Rattle.lists.proofs.Laws.{later-width, in-none, in_rest, in-not, in-any}
 use Rattle.lists.proofs.in_lists.Goals as goal
 
--- the bits of the attribute at hand, and of those after it
-bits_at : (c : goal.After-bits_for) → c.bits_for.result ≡ bits_for (attr_at (without_lists c.args.class) c.loop-k.k)
-unfolding attr_at
-bits_at c = let f = c.bits_for.ensures 0 in cc
-
-left_at : (c : goal.After-bits_for) →
-    c.loop-k.left ≡ c.bits_for.result + width (drop (c.loop-k.k + 1) (attrs_of (without_lists c.args.class)))
-left_at c =
-    let t = c.loop-k in
-    omega (arith, bits_at c, later-width (without_lists c.args.class) t.k (omega arith))
-
--- whether its code stands for a value
-code_at : (c : goal.After-code_ok) →
-    c.code_ok.result
-    ≡ within 0 (codes (attr_at (without_lists c.args.class) c.loop-k.k)) (c.loop-k.rest / 2 ^ (c.loop-k.left - c.bits_for.result))
-unfolding attr_at
-code_at c = let f = c.code_ok.ensures 0 in cc
-
 pub loop-k-init : goal.loop-k-init
 loop-k-init c = (search rules, search rules, c.class_width-left.ensures.value ∙ sym (width-any c.args.class), refl)
 
 pub overflow_sub-left : goal.overflow_sub-left
-overflow_sub-left c = omega (arith, left_at c)
+unfolding attr_at
+overflow_sub-left c =
+    let bits_at : c.bits_for.result ≡ bits_for (attr_at (without_lists c.args.class) c.loop-k.k) =
+    let f = c.bits_for.ensures 0 in cc in
+    let left_at : c.loop-k.left ≡ c.bits_for.result + width (drop (c.loop-k.k + 1) (attrs_of (without_lists c.args.class))) =
+    let t = c.loop-k in
+    omega (arith, bits_at, later-width (without_lists c.args.class) t.k (omega arith)) in
+    omega (arith, left_at)
 
 pub returns-then-not-code_ok : goal.returns-then-not-code_ok
+unfolding attr_at
 returns-then-not-code_ok c =
+    let bits_at : c.bits_for.result ≡ bits_for (attr_at (without_lists c.args.class) c.loop-k.k) =
+    let f = c.bits_for.ensures 0 in cc in
+    let left_at : c.loop-k.left ≡ c.bits_for.result + width (drop (c.loop-k.k + 1) (attrs_of (without_lists c.args.class))) =
+    let t = c.loop-k in
+    omega (arith, bits_at, later-width (without_lists c.args.class) t.k (omega arith)) in
+    let code_at : c.code_ok.result
+    ≡ within 0 (codes (attr_at (without_lists c.args.class) c.loop-k.k)) (c.loop-k.rest / 2 ^ (c.loop-k.left - c.bits_for.result)) =
+    let f = c.code_ok.ensures 0 in cc in
     let t = c.loop-k in
     let a = c.args in
     let d = without_lists a.class in
     let b = c.bits_for.result in
     sym
     (t.invariant.3
-    ∙ in-not d t.k t.rest (t.left - b) (omega arith) (omega (arith, left_at c))
-    (sym (code_at c) ∙ c.if-not-code_ok.true))
+    ∙ in-not d t.k t.rest (t.left - b) (omega arith) (omega (arith, left_at))
+    (sym (code_at) ∙ c.if-not-code_ok.true))
     ∙ in-any a.class a.v
 
 pub loop-k-preserved : goal.loop-k-preserved
+unfolding attr_at
 loop-k-preserved c =
+    let bits_at : c.bits_for.result ≡ bits_for (attr_at (without_lists c.args.class) c.loop-k.k) =
+    let f = c.bits_for.ensures 0 in cc in
+    let left_at : c.loop-k.left ≡ c.bits_for.result + width (drop (c.loop-k.k + 1) (attrs_of (without_lists c.args.class))) =
+    let t = c.loop-k in
+    omega (arith, bits_at, later-width (without_lists c.args.class) t.k (omega arith)) in
+    let code_at : c.code_ok.result
+    ≡ within 0 (codes (attr_at (without_lists c.args.class) c.loop-k.k)) (c.loop-k.rest / 2 ^ (c.loop-k.left - c.bits_for.result)) =
+    let f = c.code_ok.ensures 0 in cc in
     let t = c.loop-k in
     let a = c.args in
     let d = without_lists a.class in
     let b = c.bits_for.result in
-    let w : t.left - b ≡ width (drop (t.k + 1) (attrs_of d)) = omega (arith, left_at c) in (
+    let w : t.left - b ≡ width (drop (t.k + 1) (attrs_of d)) = omega (arith, left_at) in (
       search rules,
       search rules,
       w,
       t.invariant.3
           ∙ in_rest d t.k t.rest (t.left - b) (omega arith) w
-          (sym (code_at c) ∙ c.if-not-code_ok.false)
+          (sym (code_at) ∙ c.if-not-code_ok.false)
           ∙ ap (in_lists (drop (t.k + 1) (attrs_of d))) (sym c.low_bits-rest.ensures),
     )
 

@@ -9,37 +9,48 @@ use Rattle.preparing.proofs.Whole.{room_fits, stored-none, prepared-of}
 use borrow.Author.Rules.{rules}
 use Rattle.preparing.proofs.prepare_with.Goals as goal
 
--- the room of the tables
-fits : (c : goal.After-larger-room)
-    → (c.larger-room.result ≤ 256) × (4 * (193 + 64 * c.larger-room.result) ≤ length c.args.area.now)
-fits c =
+pub fill_tables-requires : goal.fill_tables-requires
+fill_tables-requires c =
+    let fits : (c.larger-room.result ≤ 256) × (4 * (193 + 64 * c.larger-room.result) ≤ length c.args.area.now) =
     let w = c.requires.row_in_bounds in
     let p = c.room_of-rows.ensures in
     let q = c.room_of-outers.ensures in
-    room_fits _ _ _ _ c.larger-room.result _ p.value q.value p.result_nonzero.1 q.result_nonzero.1 w.0 w.1 c.larger-room.ensures.by_index
-
-pub fill_tables-requires : goal.fill_tables-requires
-fill_tables-requires c =
-    let w = fits g in
+    room_fits _ _ _ _ c.larger-room.result _ p.value q.value p.result_nonzero.1 q.result_nonzero.1 w.0 w.1 c.larger-room.ensures.by_index in
+    let w = fits in
     let l = c.larger-room.ensures.lower_bound in record { n_bound = (omega (arith, c.requires), omega (arith, c.requires), omega (arith, c.requires), omega (arith, c.requires)); room_nonzero = (omega (arith, l, c.room_of-rows.ensures.result_nonzero), w.0, l.0, l.1, omega (arith, w, c.store.ensures.area_len_unchanged)); rows_value = (c.room_of-rows.ensures.value, c.room_of-outers.ensures.value) }
 
 pub outer_rows-requires : goal.outer_rows-requires
 outer_rows-requires c =
-    let w = fits g in record { n_bound = (omega (arith, c.requires), omega (arith, c.requires), omega (arith, c.requires), omega (arith, c.requires)); room_nonzero = (omega (arith, c.larger-room.ensures.lower_bound, c.room_of-rows.ensures.result_nonzero), w.0, omega (arith, w, c.store.ensures.area_len_unchanged, c.fill_tables.ensures.area_len_unchanged)) }
+    let fits : (c.larger-room.result ≤ 256) × (4 * (193 + 64 * c.larger-room.result) ≤ length c.args.area.now) =
+    let w = c.requires.row_in_bounds in
+    let p = c.room_of-rows.ensures in
+    let q = c.room_of-outers.ensures in
+    room_fits _ _ _ _ c.larger-room.result _ p.value q.value p.result_nonzero.1 q.result_nonzero.1 w.0 w.1 c.larger-room.ensures.by_index in
+    let w = fits in record { n_bound = (omega (arith, c.requires), omega (arith, c.requires), omega (arith, c.requires), omega (arith, c.requires)); room_nonzero = (omega (arith, c.larger-room.ensures.lower_bound, c.room_of-rows.ensures.result_nonzero), w.0, omega (arith, w, c.store.ensures.area_len_unchanged, c.fill_tables.ensures.area_len_unchanged)) }
 
 pub lists-m-requires : goal.lists-m-requires
 lists-m-requires c =
+    let fits : (c.larger-room.result ≤ 256) × (4 * (193 + 64 * c.larger-room.result) ≤ length c.args.area.now) =
+    let w = c.requires.row_in_bounds in
+    let p = c.room_of-rows.ensures in
+    let q = c.room_of-outers.ensures in
+    room_fits _ _ _ _ c.larger-room.result _ p.value q.value p.result_nonzero.1 q.result_nonzero.1 w.0 w.1 c.larger-room.ensures.by_index in
     (
       omega (arith, c.requires),
       omega (arith, c.requires),
       omega (arith, c.requires),
       omega (arith, c.requires),
-      (fits g).0,
+      (fits).0,
       omega (arith, c.requires, c.outer_rows.ensures.steps_len_unchanged),
     )
 
 pub returns : goal.returns
 returns c =
+    let fits : (c.larger-room.result ≤ 256) × (4 * (193 + 64 * c.larger-room.result) ≤ length c.args.area.now) =
+    let w = c.requires.row_in_bounds in
+    let p = c.room_of-rows.ensures in
+    let q = c.room_of-outers.ensures in
+    room_fits _ _ _ _ c.larger-room.result _ p.value q.value p.result_nonzero.1 q.result_nonzero.1 w.0 w.1 c.larger-room.ensures.by_index in
     let a = c.args in
     let m = c.lists-m in
     let o = c.outer_rows in
@@ -48,7 +59,7 @@ returns c =
     let y = c.room_of-outers in
     let x = c.room_of-rows in
     let l = c.larger-room.ensures.lower_bound in
-    let w = fits g in
+    let w = fits in
     let d = c.requires.UNKNOWN.1.1.1 in record { prepared = prepared-of (lists_of a.classes) a.nodes.now a.f a.lane a.row a.outer a.n c.larger-room.result x.result y.result
           a.onlane.now a.onrow.now a.onouter.now c.requires.fact d.0 d.1.0 d.1.1 c.requires.n_bound.0 w.0
           x.ensures.value y.ensures.value x.ensures.result_nonzero.0 y.ensures.result_nonzero.0 l.0 l.1 e.new.area t.new.area o.new.area _

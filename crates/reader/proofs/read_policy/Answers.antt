@@ -32,34 +32,6 @@ as_read c =
       nodes = c.read-formulas.result.nodes;
     }
 
-module _ (c : goal.After-read_formulas-f) where
-  read : let a = c.args in
-      res_of c.read_formulas-f.result.at (policy_of (as_read c)) ≡ policy_format.read a.s.now 0
-  unfolding policy_format head_of lists_of under_head as_read
-  read =
-      let a = c.args in
-      let s = a.s.now in
-      read-counted c.read_counts-h.result (as_read c) c.read_values-u.ensures.pos_bound.1 c.read_sessions-t.ensures.pos_bound.1 c.read_values-i.ensures.pos_bound.1 refl s _ _
-      (chain-via _ _ _ s _ _ _
-      (chain-pair _ _ s _ _ _ _ _ c.read_counts-h.ensures.result_value
-      (chain-pair _ _ s _ _ _ _ _ c.read_classes-c.ensures.classes_value
-      (chain-pair _ _ s _ _ _ _ _ c.read_values-u.ensures.values_value
-      (chain-pair _ _ s _ _ _ _ _ c.read_sessions-t.ensures.sessions_value
-      (chain-pair _ _ s _ _ _ _ _ c.read_values-i.ensures.values_value c.read_formulas-f.ensures.permissions_value))))))
-      ∙ from-good _ _ refl
-
-  place : c.read_formulas-f.result.at.pos ≤ 16680
-  place =
-      omega (
-        arith,
-        c.read_formulas-f.ensures.pos_bound,
-        c.read_values-i.ensures.pos_bound.0,
-        c.read_sessions-t.ensures.pos_bound.0,
-        c.read_values-u.ensures.pos_bound.0,
-        c.read_classes-c.ensures.pos_bound,
-        c.read_counts-h.ensures.pos_bound,
-      )
-
 pub read_formulas-f-requires : goal.read_formulas-f-requires
 read_formulas-f-requires c =
     (
@@ -76,8 +48,53 @@ read_formulas-f-requires c =
     )
 
 pub returns-then-next-ne0 : goal.returns-then-next-ne0
-returns-then-next-ne0 c = record { rules_value = res-any c.read_formulas-f.result.at _ (policy_of (as_read k)) (omega arith) ∙ read k; rules_value_2 = beside-bad c.read_formulas-f.result.at.number _ (omega arith) c.no_rules-none.ensures; pos_bound = place k; count_is_place = c.read_formulas-f.ensures.count_is_place }
+unfolding policy_format head_of lists_of under_head as_read
+returns-then-next-ne0 c =
+    let read : let a = c.args in
+    res_of c.read_formulas-f.result.at (policy_of (as_read c)) ≡ policy_format.read a.s.now 0 =
+    let a = c.args in
+    let s = a.s.now in
+    read-counted c.read_counts-h.result (as_read c) c.read_values-u.ensures.pos_bound.1 c.read_sessions-t.ensures.pos_bound.1 c.read_values-i.ensures.pos_bound.1 refl s _ _
+    (chain-via _ _ _ s _ _ _
+    (chain-pair _ _ s _ _ _ _ _ c.read_counts-h.ensures.result_value
+    (chain-pair _ _ s _ _ _ _ _ c.read_classes-c.ensures.classes_value
+    (chain-pair _ _ s _ _ _ _ _ c.read_values-u.ensures.values_value
+    (chain-pair _ _ s _ _ _ _ _ c.read_sessions-t.ensures.sessions_value
+    (chain-pair _ _ s _ _ _ _ _ c.read_values-i.ensures.values_value c.read_formulas-f.ensures.permissions_value))))))
+    ∙ from-good _ _ refl in
+    let place : c.read_formulas-f.result.at.pos ≤ 16680 =
+    omega (
+      arith,
+      c.read_formulas-f.ensures.pos_bound,
+      c.read_values-i.ensures.pos_bound.0,
+      c.read_sessions-t.ensures.pos_bound.0,
+      c.read_values-u.ensures.pos_bound.0,
+      c.read_classes-c.ensures.pos_bound,
+      c.read_counts-h.ensures.pos_bound,
+    ) in record { rules_value = res-any c.read_formulas-f.result.at _ (policy_of (as_read k)) (omega arith) ∙ read; rules_value_2 = beside-bad c.read_formulas-f.result.at.number _ (omega arith) c.no_rules-none.ensures; pos_bound = place; count_is_place = c.read_formulas-f.ensures.count_is_place }
 
 pub returns : goal.returns
-unfolding as_read
-returns c = record { rules_value = read k; rules_value_2 = beside-good c.read_formulas-f.result.at.number _ (omega arith); pos_bound = place k; count_is_place = c.read_formulas-f.ensures.count_is_place }
+unfolding as_read policy_format head_of lists_of under_head
+returns c =
+    let read : let a = c.args in
+    res_of c.read_formulas-f.result.at (policy_of (as_read c)) ≡ policy_format.read a.s.now 0 =
+    let a = c.args in
+    let s = a.s.now in
+    read-counted c.read_counts-h.result (as_read c) c.read_values-u.ensures.pos_bound.1 c.read_sessions-t.ensures.pos_bound.1 c.read_values-i.ensures.pos_bound.1 refl s _ _
+    (chain-via _ _ _ s _ _ _
+    (chain-pair _ _ s _ _ _ _ _ c.read_counts-h.ensures.result_value
+    (chain-pair _ _ s _ _ _ _ _ c.read_classes-c.ensures.classes_value
+    (chain-pair _ _ s _ _ _ _ _ c.read_values-u.ensures.values_value
+    (chain-pair _ _ s _ _ _ _ _ c.read_sessions-t.ensures.sessions_value
+    (chain-pair _ _ s _ _ _ _ _ c.read_values-i.ensures.values_value c.read_formulas-f.ensures.permissions_value))))))
+    ∙ from-good _ _ refl in
+    let place : c.read_formulas-f.result.at.pos ≤ 16680 =
+    omega (
+      arith,
+      c.read_formulas-f.ensures.pos_bound,
+      c.read_values-i.ensures.pos_bound.0,
+      c.read_sessions-t.ensures.pos_bound.0,
+      c.read_values-u.ensures.pos_bound.0,
+      c.read_classes-c.ensures.pos_bound,
+      c.read_counts-h.ensures.pos_bound,
+    ) in record { rules_value = read; rules_value_2 = beside-good c.read_formulas-f.result.at.number _ (omega arith); pos_bound = place; count_is_place = c.read_formulas-f.ensures.count_is_place }

@@ -11,16 +11,6 @@ use Rattle.replay.proofs.Laws.{leaving, rows-fewer, rows-every, replay-unread, r
 use borrow.Author.Rules.{rules}
 use Rattle.replay.proofs.replay.Goals as goal
 
--- the rules were read
-read : (c : goal.In-Accepted) → reading c.args.file.now ≡ rules (policy_of c.read_rules-parsed.result.rules)
-read c =
-    let q = c.read_rules-parsed in
-    was-accepted c.args.file.now q.result.answer (policy_of q.result.rules) q.ensures.rules_value c.in-Accepted.is
-
--- something is asked
-asking : (c : goal.Else-not-asks) → asks (policy_of c.read_rules-parsed.result.rules) c.args.question.now ≡ true
-asking c = held c.asks.ensures c.if-not-asks.left
-
 pub returns-in-Refused : goal.returns-in-Refused
 returns-in-Refused c =
     let q = c.read_rules-parsed in
@@ -30,30 +20,53 @@ returns-in-Refused c =
 
 pub returns-then-not-asks : goal.returns-then-not-asks
 returns-then-not-asks c =
+    let read : reading c.args.file.now ≡ rules (policy_of c.read_rules-parsed.result.rules) =
+    let q = c.read_rules-parsed in
+    was-accepted c.args.file.now q.result.answer (policy_of q.result.rules) q.ensures.rules_value c.in-Accepted.is in
     let a = c.args in let both = leaving
-    (replay-unasked a.question.now a.rows.now a.sessions.now a.items.now _ (read t) (denied c.asks.ensures c.if-not-asks.taken)) in record { result_value = both.0; sessions_after = both.1.0; after = both.1.1 }
+    (replay-unasked a.question.now a.rows.now a.sessions.now a.items.now _ (read) (denied c.asks.ensures c.if-not-asks.taken)) in record { result_value = both.0; sessions_after = both.1.0; after = both.1.1 }
 
 pub returns-in-Refused-outcome : goal.returns-in-Refused-outcome
 returns-in-Refused-outcome c =
+    let read : reading c.args.file.now ≡ rules (policy_of c.read_rules-parsed.result.rules) =
+    let q = c.read_rules-parsed in
+    was-accepted c.args.file.now q.result.answer (policy_of q.result.rules) q.ensures.rules_value c.in-Accepted.is in
+    let asking : asks (policy_of c.read_rules-parsed.result.rules) c.args.question.now ≡ true =
+    held c.asks.ensures c.if-not-asks.left in
     let a = c.args in let both = leaving
-    (replay-unstarted a.question.now a.rows.now a.sessions.now a.items.now _ (read t) (asking n) c.start_with-begun.ensures (ap refusal_of c.in-Refused-outcome.is)) in record { result_value = both.0; sessions_after = both.1.0; after = both.1.1 }
+    (replay-unstarted a.question.now a.rows.now a.sessions.now a.items.now _ (read) (asking) c.start_with-begun.ensures (ap refusal_of c.in-Refused-outcome.is)) in record { result_value = both.0; sessions_after = both.1.0; after = both.1.1 }
 
 pub returns-then-ran-rows : goal.returns-then-ran-rows
 returns-then-ran-rows c =
+    let read : reading c.args.file.now ≡ rules (policy_of c.read_rules-parsed.result.rules) =
+    let q = c.read_rules-parsed in
+    was-accepted c.args.file.now q.result.answer (policy_of q.result.rules) q.ensures.rules_value c.in-Accepted.is in
+    let asking : asks (policy_of c.read_rules-parsed.result.rules) c.args.question.now ≡ true =
+    held c.asks.ensures c.if-not-asks.left in
     let a = c.args in let both = leaving
-    (replay-stopped a.question.now a.rows.now a.sessions.now a.items.now _ (read t) (asking n)
+    (replay-stopped a.question.now a.rows.now a.sessions.now a.items.now _ (read) (asking)
     c.start_with-begun.ensures (ap refusal_of c.in-Done.is) c.steps_at-ran.ensures (rows-fewer _ _ _ a.rows.now c.steps_at-ran.ensures c.if-ran-rows.taken).1) in record { result_value = both.0; sessions_after = both.1.0; after = both.1.1 }
 
 pub returns-then-last_fits : goal.returns-then-last_fits
 returns-then-last_fits c =
+    let read : reading c.args.file.now ≡ rules (policy_of c.read_rules-parsed.result.rules) =
+    let q = c.read_rules-parsed in
+    was-accepted c.args.file.now q.result.answer (policy_of q.result.rules) q.ensures.rules_value c.in-Accepted.is in
+    let asking : asks (policy_of c.read_rules-parsed.result.rules) c.args.question.now ≡ true =
+    held c.asks.ensures c.if-not-asks.left in
     let a = c.args in let both = leaving
-    (replay-shown a.question.now a.rows.now a.sessions.now a.items.now _ (read t) (asking n)
+    (replay-shown a.question.now a.rows.now a.sessions.now a.items.now _ (read) (asking)
     c.start_with-begun.ensures (ap refusal_of c.in-Done.is) c.steps_at-ran.ensures (rows-every _ _ _ a.rows.now c.steps_at-ran.ensures c.if-ran-rows.left)
     (c.last_fits.ensures _) c.of.ensures c.if-last_fits.taken) in record { result_value = both.0; sessions_after = both.1.0; after = both.1.1 }
 
 pub returns-else-last_fits : goal.returns-else-last_fits
 returns-else-last_fits c =
+    let read : reading c.args.file.now ≡ rules (policy_of c.read_rules-parsed.result.rules) =
+    let q = c.read_rules-parsed in
+    was-accepted c.args.file.now q.result.answer (policy_of q.result.rules) q.ensures.rules_value c.in-Accepted.is in
+    let asking : asks (policy_of c.read_rules-parsed.result.rules) c.args.question.now ≡ true =
+    held c.asks.ensures c.if-not-asks.left in
     let a = c.args in let both = leaving
-    (replay-missed a.question.now a.rows.now a.sessions.now a.items.now _ (read t) (asking n)
+    (replay-missed a.question.now a.rows.now a.sessions.now a.items.now _ (read) (asking)
     c.start_with-begun.ensures (ap refusal_of c.in-Done.is) c.steps_at-ran.ensures (rows-every _ _ _ a.rows.now c.steps_at-ran.ensures c.if-ran-rows.left)
     (c.last_fits.ensures _) c.of.ensures c.if-last_fits.left) in record { result_value = both.0; sessions_after = both.1.0; after = both.1.1 }

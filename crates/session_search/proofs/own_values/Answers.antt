@@ -31,15 +31,14 @@ module _ (none one : List ℕ) (held : ℕ) (h : held < 256) (N : Lanes (λ v. f
   spread-held : spread (lane_of one) nothing 0 0 ≡ pushed nothing held 0 0
   spread-held = spread-one (lane_of one) nothing 0 0 held h (new held h ∙ eq-eqb held held refl) (λ v l d. new v l ∙ ne_eqb v held d)
 
-byte-held : (s : goal.Start) → s.args.held < 256
-byte-held s = search rules
-
 pub returns : goal.returns
 returns c =
+    let byte-held : c.args.held < 256 =
+    search rules in
     let f = c.from_starts in
     let o = c.add-starts in
     let a = c.args in
     let m = model_by a.basis a.nodes.now in
     f.ensures.value
-    ∙ ap (λ (q : Found). grow_to m.session_value (changes_to m a.u) q 256) (spread-held c.none.result o.result a.held (byte-held s) c.none.ensures o.ensures.lanes)
+    ∙ ap (λ (q : Found). grow_to m.session_value (changes_to m a.u) q 256) (spread-held c.none.result o.result a.held (byte-held) c.none.ensures o.ensures.lanes)
     ∙ sym (own-are m a.u a.held)

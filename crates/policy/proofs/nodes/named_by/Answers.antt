@@ -12,18 +12,6 @@ use Rattle.policy.specs.Rules.{lists_of}
 use Rattle.policy.proofs.NodeLaws.{or-false, or-never, names-barred, names-past, names-place, list-place, barred-constant, atomic-constant, atomic-attribute}
 use Rattle.policy.proofs.nodes.named_by.Goals as goal
 
--- the attribute's kind decides
-place : (c : goal.After-byte_at-kind) (kind : ℕ)
-    → let a = c.args in
-    names (lists_of a.classes) a.f kind a.x ≡ eqb c.byte_at-kind.result kind
-unfolding holder_of place_of
-place c kind =
-    let r = c.of_holder-class in
-    let u = c.may_use in
-    let a = c.args in
-    names-place (lists_of a.classes) a.f kind a.x r.result r.ensures (sym u.ensures ∙ not-false u.result c.if-not-may_use.false) c.if-class-k.false
-    ∙ ap (λ (k : ℕ). eqb k kind) (sym c.byte_at-kind.ensures)
-
 pub returns-then-k-lt16 : goal.returns-then-k-lt16
 unfolding holder_of place_of
 returns-then-k-lt16 c =
@@ -57,16 +45,37 @@ returns-then-class-k c =
     let past : (kind : ℕ) → names l a.f kind a.x ≡ false = λ kind. names-past l a.f kind a.x r.result r.ensures may c.if-class-k.true in record { sort_value = sym (atomic-attribute l a.f a.x c.if-h-eq5.false ∙ past 0); sort_value_2 = sym (past 1); x_value = (λ z. absurd (omega arith)); fact = λ z. absurd (omega arith) }
 
 pub returns-then-kind-gt-SET : goal.returns-then-kind-gt-SET
-unfolding holder_of
+unfolding holder_of place_of
 returns-then-kind-gt-SET c =
+    let place : (kind : ℕ)
+    → let a = c.args in
+    names (lists_of a.classes) a.f kind a.x ≡ eqb c.byte_at-kind.result kind =
+    λ kind. let r = c.of_holder-class in
+    let u = c.may_use in
     let a = c.args in
-    let l = lists_of a.classes in record { sort_value = sym (atomic-attribute l a.f a.x c.if-h-eq5.false ∙ place p 0 ∙ ne_eqb c.byte_at-kind.result 0 (λ e. omega (arith, c.if-kind-gt-SET.true))); sort_value_2 = sym (place p 1 ∙ ne_eqb c.byte_at-kind.result 1 (λ e. omega (arith, c.if-kind-gt-SET.true))); x_value = (λ z. absurd (omega arith)); fact = λ z. absurd (omega arith) }
+    names-place (lists_of a.classes) a.f kind a.x r.result r.ensures (sym u.ensures ∙ c.if-not-may_use.false) c.if-class-k.false
+    ∙ ap (λ (k : ℕ). eqb k kind) (sym c.byte_at-kind.ensures) in
+    let a = c.args in
+    let l = lists_of a.classes in record { sort_value = sym (atomic-attribute l a.f a.x c.if-h-eq5.false ∙ place 0 ∙ ne_eqb c.byte_at-kind.result 0 (λ e. omega (arith, c.if-kind-gt-SET.true))); sort_value_2 = sym (place 1 ∙ ne_eqb c.byte_at-kind.result 1 (λ e. omega (arith, c.if-kind-gt-SET.true))); x_value = (λ z. absurd (omega arith)); fact = λ z. absurd (omega arith) }
 
 pub returns : goal.returns
 unfolding holder_of place_of
 returns c =
+    let place : (kind : ℕ)
+    → let a = c.args in
+    names (lists_of a.classes) a.f kind a.x ≡ eqb c.byte_at-kind.result kind =
+    λ kind. let r = c.of_holder-class in
+    let u = c.may_use in
+    let a = c.args in
+    names-place (lists_of a.classes) a.f kind a.x r.result r.ensures (sym u.ensures ∙ c.if-not-may_use.false) c.if-class-k.false
+    ∙ ap (λ (k : ℕ). eqb k kind) (sym c.byte_at-kind.ensures) in
     let f = c.if-kind-gt-SET.false in
     let r = c.of_holder-class in
     let a = c.args in
-    let l = lists_of a.classes in record { sort_value = ap (λ (q : Bool). eqb c.byte_at-kind.result 0 || q) (ne_eqb c.byte_at-kind.result 2 (λ e. omega arith)) ∙ or-never _
-          ∙ sym (atomic-attribute l a.f a.x c.if-h-eq5.false ∙ place p 0); sort_value_2 = sym (place p 1); x_value = (λ z. absurd (omega arith)); fact = λ z. (c.if-h-eq5.false, c.byte_at.ensures ∙ sym (list-place l a.x r.result r.ensures c.if-class-k.false)) }
+    let l = lists_of a.classes in record {
+      sort_value = ap (λ (q : Bool). eqb c.byte_at-kind.result 0 || q) (ne_eqb c.byte_at-kind.result 2 (λ e. omega arith)) ∙ or-never _
+          ∙ sym (atomic-attribute l a.f a.x c.if-h-eq5.false ∙ place 0);
+      sort_value_2 = sym (place 1);
+      x_value = (λ z. absurd (omega arith));
+      fact = λ z. (c.if-h-eq5.false, c.byte_at.ensures ∙ sym (list-place l a.x r.result r.ensures c.if-class-k.false));
+    }

@@ -19,60 +19,6 @@ number ok ok' agree agree' e g = sym (ap (λ (b : Bool). fault_in b agree) e ∙
 refused : (ok agree : Bool) → ok ≡ false → fault_in false agree ≡ fault_in ok agree
 refused ok agree e = sym (ap (λ (b : Bool). fault_in b agree) e)
 
--- the operands' sorts say whether the node may stand there
-sound : (c : goal.After-takes_values) → let a = c.args in node_ok (lists_of a.classes) a.f a.i a.x ≡ c.takes_values.result
-unfolding op_of first_of second_of
-sound c =
-    let q = c.named_by-q in
-    let p = c.named_by-p in
-    let a = c.args in
-    let op = op_of a.x in
-    let l = lists_of a.classes in
-    let s = p.result.sort in
-    let t = q.result.sort in
-    let a₁ = atomic l a.f (first_of a.x) in
-    let n₁ = names l a.f 1 (first_of a.x) in
-    let a₂ = atomic l a.f (second_of a.x) in
-    sym
-    (c.takes_values.ensures
-    ∙ ap (λ (z : Bool). compared op z (eqb s 1) (eqb t 0 || eqb t 2) (eqb t 1)) p.ensures.sort_value
-    ∙ ap (λ (z : Bool). compared op a₁ z (eqb t 0 || eqb t 2) (eqb t 1)) p.ensures.sort_value_2
-    ∙ ap (λ (z : Bool). compared op a₁ n₁ z (eqb t 1)) q.ensures.sort_value
-    ∙ ap (λ (z : Bool). compared op a₁ n₁ a₂ z) q.ensures.sort_value_2
-    ∙ sym (node-compared l a.f a.i a.x c.if-op-le4.false c.if-op-gt10.false))
-
--- it is one that compares
-agrees : (c : goal.After-takes_values) (b : Bool)
-    → let a = c.args in
-    same_list (lists_of a.classes) (first_of a.x) (second_of a.x) ≡ b → lists_agree (lists_of a.classes) a.x ≡ b
-unfolding op_of
-agrees c b e =
-    let a = c.args in
-    agree-compared (lists_of a.classes) a.x c.if-op-le4.false c.if-op-gt10.false ∙ e
-
--- two attributes: their lists decide
-both : (c : goal.After-struct_known-4-1)
-    → let a = c.args in
-    (node_ok (lists_of a.classes) a.f a.i a.x ≡ true)
-    × (same_list (lists_of a.classes) (first_of a.x) (second_of a.x) ≡ eqb c.named_by-p.result.list c.named_by-q.result.list)
-unfolding op_of first_of second_of
-both c =
-    let held = not-false c.takes_values.result c.if-not-takes_values.false in
-    let q = c.named_by-q in
-    let p = c.named_by-p in
-    let a = c.args in
-    let l = lists_of a.classes in
-    let op = op_of a.x in
-    let s₁ = p.result.sort in
-    let s₂ = q.result.sort in
-    let ps = first-few op s₁ s₂ (eqb s₂ 0 || eqb s₂ 2) (eqb s₂ 1) (sym c.takes_values.ensures ∙ held) in
-    let qs = second-few op s₁ s₂ (eqb s₁ 0 || eqb s₁ 2) (eqb s₁ 1) (sym c.takes_values.ensures ∙ held) in
-    let np = c.if-p-eq-CONSTANT.false in
-    let nq = c.if-q-eq-CONSTANT.false in
-    let (hp, ep) = p.ensures.fact (omega arith) in
-    let (hq, eq) = q.ensures.fact (omega arith) in
-    (sound t ∙ held, same_lists l _ _ hp hq ∙ sym (ap (λ (n : ℕ). eqb n q.result.list) ep ∙ ap (λ (n : ℕ). eqb (named l (first_of a.x)).list n) eq))
-
 pub returns-then-takes_nodes : goal.returns-then-takes_nodes
 unfolding op_of first_of second_of
 returns-then-takes_nodes c =
@@ -98,31 +44,180 @@ returns-then-op-gt10 c =
     refused (node_ok l a.f a.i a.x) (lists_agree l a.x) (node-unknown l a.f a.i a.x c.if-op-gt10.true)
 
 pub returns-then-not-takes_values : goal.returns-then-not-takes_values
+unfolding op_of first_of second_of
 returns-then-not-takes_values c =
-    let a = c.args in
-    let l = lists_of a.classes in
-    refused (node_ok l a.f a.i a.x) (lists_agree l a.x) (sound t ∙ c.if-not-takes_values.true)
-
-pub returns-then-p-eq-CONSTANT : goal.returns-then-p-eq-CONSTANT
-unfolding first_of
-returns-then-p-eq-CONSTANT c =
+    let sound : let a = c.args in node_ok (lists_of a.classes) a.f a.i a.x ≡ c.takes_values.result =
+    let q = c.named_by-q in
     let p = c.named_by-p in
     let a = c.args in
-    number _ true _ true (sound t ∙ c.if-not-takes_values.false)
-    (agrees t true (same_first (lists_of a.classes) _ _ (p.ensures.x_value c.if-p-eq-CONSTANT.true)))
+    let op = op_of a.x in
+    let l = lists_of a.classes in
+    let s = p.result.sort in
+    let t = q.result.sort in
+    let a₁ = atomic l a.f (first_of a.x) in
+    let n₁ = names l a.f 1 (first_of a.x) in
+    let a₂ = atomic l a.f (second_of a.x) in
+    sym
+    (c.takes_values.ensures
+    ∙ ap (λ (z : Bool). compared op z (eqb s 1) (eqb t 0 || eqb t 2) (eqb t 1)) p.ensures.sort_value
+    ∙ ap (λ (z : Bool). compared op a₁ z (eqb t 0 || eqb t 2) (eqb t 1)) p.ensures.sort_value_2
+    ∙ ap (λ (z : Bool). compared op a₁ n₁ z (eqb t 1)) q.ensures.sort_value
+    ∙ ap (λ (z : Bool). compared op a₁ n₁ a₂ z) q.ensures.sort_value_2
+    ∙ sym (node-compared l a.f a.i a.x c.if-op-le4.false c.if-op-gt10.false)) in
+    let a = c.args in
+    let l = lists_of a.classes in
+    refused (node_ok l a.f a.i a.x) (lists_agree l a.x) (sound ∙ c.if-not-takes_values.true)
+
+pub returns-then-p-eq-CONSTANT : goal.returns-then-p-eq-CONSTANT
+unfolding first_of op_of second_of
+returns-then-p-eq-CONSTANT c =
+    let sound : let a = c.args in node_ok (lists_of a.classes) a.f a.i a.x ≡ c.takes_values.result =
+    let q = c.named_by-q in
+    let p = c.named_by-p in
+    let a = c.args in
+    let op = op_of a.x in
+    let l = lists_of a.classes in
+    let s = p.result.sort in
+    let t = q.result.sort in
+    let a₁ = atomic l a.f (first_of a.x) in
+    let n₁ = names l a.f 1 (first_of a.x) in
+    let a₂ = atomic l a.f (second_of a.x) in
+    sym
+    (c.takes_values.ensures
+    ∙ ap (λ (z : Bool). compared op z (eqb s 1) (eqb t 0 || eqb t 2) (eqb t 1)) p.ensures.sort_value
+    ∙ ap (λ (z : Bool). compared op a₁ z (eqb t 0 || eqb t 2) (eqb t 1)) p.ensures.sort_value_2
+    ∙ ap (λ (z : Bool). compared op a₁ n₁ z (eqb t 1)) q.ensures.sort_value
+    ∙ ap (λ (z : Bool). compared op a₁ n₁ a₂ z) q.ensures.sort_value_2
+    ∙ sym (node-compared l a.f a.i a.x c.if-op-le4.false c.if-op-gt10.false)) in
+    let agrees : (b : Bool)
+    → let a = c.args in
+    same_list (lists_of a.classes) (first_of a.x) (second_of a.x) ≡ b → lists_agree (lists_of a.classes) a.x ≡ b =
+    λ b. λ e. let a = c.args in
+    agree-compared (lists_of a.classes) a.x c.if-op-le4.false c.if-op-gt10.false ∙ e in
+    let p = c.named_by-p in
+    let a = c.args in
+    number _ true _ true (sound ∙ c.if-not-takes_values.false)
+    (agrees true (same_first (lists_of a.classes) _ _ (p.ensures.x_value c.if-p-eq-CONSTANT.true)))
 
 pub returns-then-q-eq-CONSTANT : goal.returns-then-q-eq-CONSTANT
-unfolding second_of
+unfolding second_of op_of first_of
 returns-then-q-eq-CONSTANT c =
+    let sound : let a = c.args in node_ok (lists_of a.classes) a.f a.i a.x ≡ c.takes_values.result =
+    let q = c.named_by-q in
+    let p = c.named_by-p in
+    let a = c.args in
+    let op = op_of a.x in
+    let l = lists_of a.classes in
+    let s = p.result.sort in
+    let t = q.result.sort in
+    let a₁ = atomic l a.f (first_of a.x) in
+    let n₁ = names l a.f 1 (first_of a.x) in
+    let a₂ = atomic l a.f (second_of a.x) in
+    sym
+    (c.takes_values.ensures
+    ∙ ap (λ (z : Bool). compared op z (eqb s 1) (eqb t 0 || eqb t 2) (eqb t 1)) p.ensures.sort_value
+    ∙ ap (λ (z : Bool). compared op a₁ z (eqb t 0 || eqb t 2) (eqb t 1)) p.ensures.sort_value_2
+    ∙ ap (λ (z : Bool). compared op a₁ n₁ z (eqb t 1)) q.ensures.sort_value
+    ∙ ap (λ (z : Bool). compared op a₁ n₁ a₂ z) q.ensures.sort_value_2
+    ∙ sym (node-compared l a.f a.i a.x c.if-op-le4.false c.if-op-gt10.false)) in
+    let agrees : (b : Bool)
+    → let a = c.args in
+    same_list (lists_of a.classes) (first_of a.x) (second_of a.x) ≡ b → lists_agree (lists_of a.classes) a.x ≡ b =
+    λ b. λ e. let a = c.args in
+    agree-compared (lists_of a.classes) a.x c.if-op-le4.false c.if-op-gt10.false ∙ e in
     let q = c.named_by-q in
     let a = c.args in
-    number _ true _ true (sound t ∙ c.if-not-takes_values.false)
-    (agrees t true (same_second (lists_of a.classes) _ _ (q.ensures.x_value c.if-q-eq-CONSTANT.true)))
+    number _ true _ true (sound ∙ c.if-not-takes_values.false)
+    (agrees true (same_second (lists_of a.classes) _ _ (q.ensures.x_value c.if-q-eq-CONSTANT.true)))
 
 pub returns-then-p-q : goal.returns-then-p-q
+unfolding op_of first_of second_of
 returns-then-p-q c =
-    number _ true _ true (both b).0 (agrees t true ((both b).1 ∙ eq-eqb _ _ c.if-p-q.true))
+    let sound : let a = c.args in node_ok (lists_of a.classes) a.f a.i a.x ≡ c.takes_values.result =
+    let q = c.named_by-q in
+    let p = c.named_by-p in
+    let a = c.args in
+    let op = op_of a.x in
+    let l = lists_of a.classes in
+    let s = p.result.sort in
+    let t = q.result.sort in
+    let a₁ = atomic l a.f (first_of a.x) in
+    let n₁ = names l a.f 1 (first_of a.x) in
+    let a₂ = atomic l a.f (second_of a.x) in
+    sym
+    (c.takes_values.ensures
+    ∙ ap (λ (z : Bool). compared op z (eqb s 1) (eqb t 0 || eqb t 2) (eqb t 1)) p.ensures.sort_value
+    ∙ ap (λ (z : Bool). compared op a₁ z (eqb t 0 || eqb t 2) (eqb t 1)) p.ensures.sort_value_2
+    ∙ ap (λ (z : Bool). compared op a₁ n₁ z (eqb t 1)) q.ensures.sort_value
+    ∙ ap (λ (z : Bool). compared op a₁ n₁ a₂ z) q.ensures.sort_value_2
+    ∙ sym (node-compared l a.f a.i a.x c.if-op-le4.false c.if-op-gt10.false)) in
+    let agrees : (b : Bool)
+    → let a = c.args in
+    same_list (lists_of a.classes) (first_of a.x) (second_of a.x) ≡ b → lists_agree (lists_of a.classes) a.x ≡ b =
+    λ b. λ e. let a = c.args in
+    agree-compared (lists_of a.classes) a.x c.if-op-le4.false c.if-op-gt10.false ∙ e in
+    let both : let a = c.args in
+    (node_ok (lists_of a.classes) a.f a.i a.x ≡ true)
+    × (same_list (lists_of a.classes) (first_of a.x) (second_of a.x) ≡ eqb c.named_by-p.result.list c.named_by-q.result.list) =
+    let held = c.if-not-takes_values.false in
+    let q = c.named_by-q in
+    let p = c.named_by-p in
+    let a = c.args in
+    let l = lists_of a.classes in
+    let op = op_of a.x in
+    let s₁ = p.result.sort in
+    let s₂ = q.result.sort in
+    let ps = first-few op s₁ s₂ (eqb s₂ 0 || eqb s₂ 2) (eqb s₂ 1) (sym c.takes_values.ensures ∙ held) in
+    let qs = second-few op s₁ s₂ (eqb s₁ 0 || eqb s₁ 2) (eqb s₁ 1) (sym c.takes_values.ensures ∙ held) in
+    let np = c.if-p-eq-CONSTANT.false in
+    let nq = c.if-q-eq-CONSTANT.false in
+    let (hp, ep) = p.ensures.fact (omega arith) in
+    let (hq, eq) = q.ensures.fact (omega arith) in
+    (sound ∙ held, same_lists l _ _ hp hq ∙ sym (ap (λ (n : ℕ). eqb n q.result.list) ep ∙ ap (λ (n : ℕ). eqb (named l (first_of a.x)).list n) eq)) in
+    number _ true _ true (both).0 (agrees true ((both).1 ∙ eq-eqb _ _ c.if-p-q.true))
 
 pub returns-else-p-q : goal.returns-else-p-q
+unfolding op_of first_of second_of
 returns-else-p-q c =
-    number _ true _ false (both b).0 (agrees t false ((both b).1 ∙ ne_eqb _ _ c.if-p-q.false))
+    let sound : let a = c.args in node_ok (lists_of a.classes) a.f a.i a.x ≡ c.takes_values.result =
+    let q = c.named_by-q in
+    let p = c.named_by-p in
+    let a = c.args in
+    let op = op_of a.x in
+    let l = lists_of a.classes in
+    let s = p.result.sort in
+    let t = q.result.sort in
+    let a₁ = atomic l a.f (first_of a.x) in
+    let n₁ = names l a.f 1 (first_of a.x) in
+    let a₂ = atomic l a.f (second_of a.x) in
+    sym
+    (c.takes_values.ensures
+    ∙ ap (λ (z : Bool). compared op z (eqb s 1) (eqb t 0 || eqb t 2) (eqb t 1)) p.ensures.sort_value
+    ∙ ap (λ (z : Bool). compared op a₁ z (eqb t 0 || eqb t 2) (eqb t 1)) p.ensures.sort_value_2
+    ∙ ap (λ (z : Bool). compared op a₁ n₁ z (eqb t 1)) q.ensures.sort_value
+    ∙ ap (λ (z : Bool). compared op a₁ n₁ a₂ z) q.ensures.sort_value_2
+    ∙ sym (node-compared l a.f a.i a.x c.if-op-le4.false c.if-op-gt10.false)) in
+    let agrees : (b : Bool)
+    → let a = c.args in
+    same_list (lists_of a.classes) (first_of a.x) (second_of a.x) ≡ b → lists_agree (lists_of a.classes) a.x ≡ b =
+    λ b. λ e. let a = c.args in
+    agree-compared (lists_of a.classes) a.x c.if-op-le4.false c.if-op-gt10.false ∙ e in
+    let both : let a = c.args in
+    (node_ok (lists_of a.classes) a.f a.i a.x ≡ true)
+    × (same_list (lists_of a.classes) (first_of a.x) (second_of a.x) ≡ eqb c.named_by-p.result.list c.named_by-q.result.list) =
+    let held = c.if-not-takes_values.false in
+    let q = c.named_by-q in
+    let p = c.named_by-p in
+    let a = c.args in
+    let l = lists_of a.classes in
+    let op = op_of a.x in
+    let s₁ = p.result.sort in
+    let s₂ = q.result.sort in
+    let ps = first-few op s₁ s₂ (eqb s₂ 0 || eqb s₂ 2) (eqb s₂ 1) (sym c.takes_values.ensures ∙ held) in
+    let qs = second-few op s₁ s₂ (eqb s₁ 0 || eqb s₁ 2) (eqb s₁ 1) (sym c.takes_values.ensures ∙ held) in
+    let np = c.if-p-eq-CONSTANT.false in
+    let nq = c.if-q-eq-CONSTANT.false in
+    let (hp, ep) = p.ensures.fact (omega arith) in
+    let (hq, eq) = q.ensures.fact (omega arith) in
+    (sound ∙ held, same_lists l _ _ hp hq ∙ sym (ap (λ (n : ℕ). eqb n q.result.list) ep ∙ ap (λ (n : ℕ). eqb (named l (first_of a.x)).list n) eq)) in
+    number _ true _ false (both).0 (agrees false ((both).1 ∙ ne_eqb _ _ c.if-p-q.false))

@@ -16,37 +16,51 @@ use Rattle.policy.proofs.Laws.{without_lists, width-any, value-any}
 use Rattle.reader.proofs.Value.{Partly, partly_none, partly-room, partly_more, partly-below, partly-all}
 use Rattle.reader.proofs.values.read_value.Goals as goal
 
--- there is room for a value of an attribute beside those so far
-room : (c : goal.After-bits_for-w) → let w = c.bits_for-w.result in (w ≤ 8) × (c.loop-i.v * 2 ^ w + 2 ^ w ≤ 256)
-unfolding attr_at
-room c =
-    let l = c.loop-i in
-    let a = c.args in
-    partly-room a.s.now (without_lists a.class) a.at l.p l.v l.i c.bits_for-w.result (omega arith) l.invariant.2 (c.bits_for-w.ensures 0)
-
 pub loop-i-init : goal.loop-i-init
 loop-i-init c =
     let class = c.args.class in
     (search rules, omega (arith, c.requires.1.count), partly_none c.args.s.now (without_lists class) c.args.at (omega (arith, width-any class, c.requires.1.wide)), c.requires.2)
 
 pub take-t-requires : goal.take-t-requires
-take-t-requires c = let l = c.loop-i in (omega (arith, (room c).0), omega (arith, l.invariant.2.place), l.invariant.3)
+unfolding attr_at
+take-t-requires c =
+    let room : let w = c.bits_for-w.result in (w ≤ 8) × (c.loop-i.v * 2 ^ w + 2 ^ w ≤ 256) =
+    let l = c.loop-i in
+    let a = c.args in
+    partly-room a.s.now (without_lists a.class) a.at l.p l.v l.i c.bits_for-w.result (omega arith) l.invariant.2 (c.bits_for-w.ensures 0) in
+    let l = c.loop-i in (omega (arith, (room).0), omega (arith, l.invariant.2.place), l.invariant.3)
 
 pub overflow_shl-v : goal.overflow_shl-v
-overflow_shl-v c = omega (arith, (room c).0)
+unfolding attr_at
+overflow_shl-v c =
+    let room : let w = c.bits_for-w.result in (w ≤ 8) × (c.loop-i.v * 2 ^ w + 2 ^ w ≤ 256) =
+    let l = c.loop-i in
+    let a = c.args in
+    partly-room a.s.now (without_lists a.class) a.at l.p l.v l.i c.bits_for-w.result (omega arith) l.invariant.2 (c.bits_for-w.ensures 0) in
+    omega (arith, (room).0)
 
 pub overflow_add-v : goal.overflow_add-v
-overflow_add-v c = omega (arith, (room c).1, c.take-t.ensures.near.fits)
+unfolding attr_at
+overflow_add-v c =
+    let room : let w = c.bits_for-w.result in (w ≤ 8) × (c.loop-i.v * 2 ^ w + 2 ^ w ≤ 256) =
+    let l = c.loop-i in
+    let a = c.args in
+    partly-room a.s.now (without_lists a.class) a.at l.p l.v l.i c.bits_for-w.result (omega arith) l.invariant.2 (c.bits_for-w.ensures 0) in
+    omega (arith, (room).1, c.take-t.ensures.near.fits)
 
 pub loop-i-preserved : goal.loop-i-preserved
 unfolding attr_at
 loop-i-preserved c =
+    let room : let w = c.bits_for-w.result in (w ≤ 8) × (c.loop-i.v * 2 ^ w + 2 ^ w ≤ 256) =
+    let l = c.loop-i in
+    let a = c.args in
+    partly-room a.s.now (without_lists a.class) a.at l.p l.v l.i c.bits_for-w.result (omega arith) l.invariant.2 (c.bits_for-w.ensures 0) in
     let o = c.code_ok in
     let t = c.take-t in
     let l = c.loop-i in
     let a = c.args in
     let w = c.bits_for-w.result in
-    let exact : l.v * 2 ^ w % 18446744073709551616 ≡ l.v * 2 ^ w = mod-eq_of_lt (omega (arith, (room b).1)) in (
+    let exact : l.v * 2 ^ w % 18446744073709551616 ≡ l.v * 2 ^ w = mod-eq_of_lt (omega (arith, (room).1)) in (
       search rules,
       search rules,
       rw (c.judged-next.ensures, exact)

@@ -12,23 +12,21 @@ use Rattle.policy.specs.File.{largest, size_fits, attr_format}
 use Rattle.reader_head.specs.Parts.{attr_of}
 use Rattle.reader_head.proofs.lists.read_attr.Goals as goal
 
--- the judgement leaves the place as it is
-place : (c : goal.After-judged-listed) → let t = c.take-l in c.judged-listed.result.pos ≡ t.result.at.pos
-place c =
-    let t = c.take-l in
-    ap (λ (z : Cursor). z.pos) c.judged-listed.ensures ∙ judged-pos t.result.at c.size_fits.result 18
-
--- and takes nothing
-counted : (c : goal.After-judged-listed) → CountIsPlace c.args.s.now c.judged-listed.result
-counted c = judged-count _ _ c.judged-listed.ensures c.take-l.ensures.count_is_place
-
 pub read_field-z-requires : goal.read_field-z-requires
 read_field-z-requires c =
-    (omega arith, omega (arith, place c, c.take-l.ensures.near.place, c.read_field-n.ensures.near.place, c.read_field-k.ensures.near.place), omega arith, counted c)
+    let place : let t = c.take-l in c.judged-listed.result.pos ≡ t.result.at.pos =
+    let t = c.take-l in
+    ap (λ (z : Cursor). z.pos) c.judged-listed.ensures ∙ judged-pos t.result.at c.size_fits.result 18 in
+    let counted : CountIsPlace c.args.s.now c.judged-listed.result =
+    judged-count _ _ c.judged-listed.ensures c.take-l.ensures.count_is_place in
+    (omega arith, omega (arith, place, c.take-l.ensures.near.place, c.read_field-n.ensures.near.place, c.read_field-k.ensures.near.place), omega arith, counted)
 
 pub returns : goal.returns
 unfolding attr_format attr_of
 returns c =
+    let place : let t = c.take-l in c.judged-listed.result.pos ≡ t.result.at.pos =
+    let t = c.take-l in
+    ap (λ (z : Cursor). z.pos) c.judged-listed.ensures ∙ judged-pos t.result.at c.size_fits.result 18 in
     let a = c.args in
     let s = a.s.now in
     let size = c.read_field-n.result.value in
@@ -42,4 +40,4 @@ returns c =
           (chain-zeros _ 1 3 s _ _ _ _ _
           (chain-pair _ _ s _ _ _ _ _ (res-field _ _ 4 s _ _ (omega arith) c.read_field-k.ensures.value) (chain-pair _ _ s _ _ _ _ _ sized listed))
           (res-field _ _ 3 s _ _ (omega arith) c.read_field-z.ensures.value)); pos_bound = omega
-            (arith, c.read_field-z.ensures.near.place, place kj, c.take-l.ensures.near.place, c.read_field-n.ensures.near.place, c.read_field-k.ensures.near.place); count_is_place = c.read_field-z.ensures.count_is_place }
+            (arith, c.read_field-z.ensures.near.place, place, c.take-l.ensures.near.place, c.read_field-n.ensures.near.place, c.read_field-k.ensures.near.place); count_is_place = c.read_field-z.ensures.count_is_place }

@@ -14,23 +14,6 @@ use Rattle.policy.proofs.Laws.{without_lists, width-any, value-any}
 use Rattle.writer.proofs.Value.{attrs_from, from_all, from-width, Onward, onward-begin, onward-turn, onward-end}
 use Rattle.writer.proofs.values.put_value.Goals as goal
 
--- the attribute that was looked up is attribute i
-attr :
-    (c : goal.After-byte_at-size)
-    → let class = without_lists c.args.class in
-    ◌≡◌ {A = Attr} (record { kind = c.byte_at-kind.result; size = c.byte_at-size.result; list = 0 }) (attr_at class c.loop-i.i)
-unfolding attr_at
-attr c = rw (c.byte_at-kind.ensures, c.byte_at-size.ensures)
-
--- what is left is as wide as it and the attributes after it
-wide :
-    (c : goal.After-bits_for-w)
-    → let class = without_lists c.args.class in
-    c.loop-i.rest ≡ c.bits_for-w.result + width (attrs_from class (c.loop-i.i + 1))
-wide c =
-    let class = without_lists c.args.class in
-    omega (arith, c.bits_for-w.ensures 0, from-width class c.loop-i.i c.loop-i-test.true (attr c))
-
 pub loop-i-init : goal.loop-i-init
 loop-i-init c =
     let class = c.args.class in
@@ -38,16 +21,33 @@ loop-i-init c =
     (omega arith, refl, omega arith, c.requires.1 ∙ sym (width-any class) ∙ ap width (sym (from_all bare)), onward-begin bare)
 
 pub overflow_sub-rest : goal.overflow_sub-rest
-overflow_sub-rest c = omega (arith, wide c)
+unfolding attr_at
+overflow_sub-rest c =
+    let attr : let class = without_lists c.args.class in
+    ◌≡◌ {A = Attr} (record { kind = c.byte_at-kind.result; size = c.byte_at-size.result; list = 0 }) (attr_at class c.loop-i.i) =
+    rw (c.byte_at-kind.ensures, c.byte_at-size.ensures) in
+    let wide : let class = without_lists c.args.class in
+    c.loop-i.rest ≡ c.bits_for-w.result + width (attrs_from class (c.loop-i.i + 1)) =
+    let class = without_lists c.args.class in
+    omega (arith, c.bits_for-w.ensures 0, from-width class c.loop-i.i c.loop-i-test.true (attr)) in
+    omega (arith, wide)
 
 pub loop-i-preserved : goal.loop-i-preserved
+unfolding attr_at
 loop-i-preserved c =
+    let attr : let class = without_lists c.args.class in
+    ◌≡◌ {A = Attr} (record { kind = c.byte_at-kind.result; size = c.byte_at-size.result; list = 0 }) (attr_at class c.loop-i.i) =
+    rw (c.byte_at-kind.ensures, c.byte_at-size.ensures) in
+    let wide : let class = without_lists c.args.class in
+    c.loop-i.rest ≡ c.bits_for-w.result + width (attrs_from class (c.loop-i.i + 1)) =
+    let class = without_lists c.args.class in
+    omega (arith, c.bits_for-w.ensures 0, from-width class c.loop-i.i c.loop-i-test.true (attr)) in
     let class = without_lists c.args.class in (
       omega arith,
       omega arith,
       omega arith,
-      omega (arith, wide m),
-      onward-turn class c.loop-i.i c.loop-i-test.true (attr c) (c.bits_for-w.ensures 0) (c.code_ok.ensures 0) (omega (arith, wide m))
+      omega (arith, wide),
+      onward-turn class c.loop-i.i c.loop-i-test.true (attr) (c.bits_for-w.ensures 0) (c.code_ok.ensures 0) (omega (arith, wide))
           c.high_bits-y.ensures c.low_bits-x.ensures c.loop-i.invariant.4 c.put_field-p.ensures.stores,
     )
 

@@ -16,9 +16,9 @@ use Rattle.lists.proofs.Laws.{later-width, in-none, in_rest, in-not, in-any}
 use Rattle.lists.proofs.in_lists.Given as goal
 
 abbrev pub invariant-loop-k : goal.invariant-loop-k
-invariant-loop-k l =
-    let l = attrs_of record { count = l.k-end; kinds = l.kinds; sizes = l.sizes; lists = [] } in
-    (l.k ≤ l.k-end) × (l.k-end ≤ 255) × (l.left ≡ width (drop l.k l)) × (in_lists l l.v ≡ in_lists (drop l.k l) l.rest)
+invariant-loop-k here =
+    let l = attrs_of record { count = here.k-end; kinds = here.kinds; sizes = here.sizes; lists = [] } in
+    (here.k ≤ here.k-end) × (here.k-end ≤ 255) × (here.left ≡ width (drop here.k l)) × (in_lists l here.v ≡ in_lists (drop here.k l) here.rest)
 
 abbrev pub decreases-loop-k : goal.decreases-loop-k
 decreases-loop-k l = l.k-end - l.k

@@ -12,13 +12,8 @@ use Rattle.formulas.specs.Parts.{Filling}
 use Rattle.formulas.proofs.TableLaws.{fill_start, fill-next, fill_end, none-bits, none-past, later-past, later_more, attr-at}
 use Rattle.alike.proofs.FieldLaws.{right-at}
 use borrow.Author.Rules.{rules}
+use Rattle.alike.proofs.fields.lay.Invariants.{own-by, right_by}
 use Rattle.alike.proofs.fields.lay.Goals as goal
-
-abbrev right_by : List Attr → ℕ → ℕ → ℕ
-right_by l i p = min (width (drop (suc p) l)) 8
-
-abbrev own-by : List Attr → ℕ → ℕ → ℕ
-own-by l i p = bits_for (attr_of l p)
 
 pub loop-k-init : goal.loop-k-init
 loop-k-init c =

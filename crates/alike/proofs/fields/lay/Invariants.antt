@@ -14,11 +14,17 @@ use Rattle.alike.proofs.FieldLaws.{right-at}
 use borrow.Author.Rules.{rules}
 use Rattle.alike.proofs.fields.lay.Given as goal
 
+abbrev pub right_by : List Attr → ℕ → ℕ → ℕ
+right_by l i p = min (width (drop (suc p) l)) 8
+
+abbrev pub own-by : List Attr → ℕ → ℕ → ℕ
+own-by l i p = bits_for (attr_of l p)
+
 abbrev pub invariant-loop-k : goal.invariant-loop-k
-invariant-loop-k l =
-    let l = attrs_of l.class in
-    (l.k ≤ min l.class.count 8) × (32 * l.h + 32 ≤ length l.shifts) × (32 * l.h + 32 ≤ length l.bits) × (l.left ≤ 255 * (8 - l.k)) × (l.left ≡ width (drop l.k l))
-    × Filling (right_by l) l.h l.h l.k l.initial.shifts l.shifts × Filling (own-by l) l.h l.h l.k l.initial.bits l.bits
+invariant-loop-k here =
+    let l = attrs_of here.class in
+    (here.k ≤ min here.class.count 8) × (32 * here.h + 32 ≤ length here.shifts) × (32 * here.h + 32 ≤ length here.bits) × (here.left ≤ 255 * (8 - here.k)) × (here.left ≡ width (drop here.k l))
+    × Filling (right_by l) here.h here.h here.k here.initial.shifts here.shifts × Filling (own-by l) here.h here.h here.k here.initial.bits here.bits
 
 abbrev pub decreases-loop-k : goal.decreases-loop-k
 decreases-loop-k l = l.k

@@ -15,14 +15,8 @@ use Rattle.formulas.specs.Value.{attr_of, part_of}
 use Rattle.formulas.specs.Parts.{Filling}
 use Rattle.formulas.proofs.TableLaws.{fill_start, fill-next, fill_end, none-part, none-size, none-past, later-past, part_at, left_at, size-at}
 use borrow.Author.Rules.{rules}
+use Rattle.formulas.proofs.table.fill.Invariants.{sizes-by, values-by}
 use Rattle.formulas.proofs.table.fill.Goals as goal
-
--- the attributes' parts of w for the holder h, and of v for the one before it
-abbrev values-by : List Attr → ℕ → ℕ → ℕ → ℕ → ℕ → ℕ
-values-by l h v w i p = part_of l p (cond (eqb i h) w v)
-
-abbrev sizes-by : List Attr → ℕ → ℕ → ℕ
-sizes-by l i p = (attr_of l p).size
 
 pub loop-k-init : goal.loop-k-init
 loop-k-init c =

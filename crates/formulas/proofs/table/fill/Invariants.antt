@@ -17,12 +17,19 @@ use Rattle.formulas.proofs.TableLaws.{fill_start, fill-next, fill_end, none-part
 use borrow.Author.Rules.{rules}
 use Rattle.formulas.proofs.table.fill.Given as goal
 
+-- the attributes' parts of w for the holder h, and of v for the one before it
+abbrev pub values-by : List Attr → ℕ → ℕ → ℕ → ℕ → ℕ → ℕ
+values-by l h v w i p = part_of l p (cond (eqb i h) w v)
+
+abbrev pub sizes-by : List Attr → ℕ → ℕ → ℕ
+sizes-by l i p = (attr_of l p).size
+
 abbrev pub invariant-loop-k : goal.invariant-loop-k
-invariant-loop-k l =
-    let l = attrs_of l.class in
-    (l.k ≤ min l.class.count 8) × (32 * l.h + 32 ≤ length l.values) × (32 * l.h + 32 ≤ length l.sizes) × (l.x ≤ 255) × (l.y ≤ 255)
-    × (l.x ≡ l.v / 2 ^ width (drop l.k l)) × (l.y ≡ l.w / 2 ^ width (drop l.k l))
-    × Filling (values-by l l.h l.v l.w) l.g l.h l.k l.initial.values l.values × Filling (sizes-by l) l.g l.h l.k l.initial.sizes l.sizes
+invariant-loop-k here =
+    let l = attrs_of here.class in
+    (here.k ≤ min here.class.count 8) × (32 * here.h + 32 ≤ length here.values) × (32 * here.h + 32 ≤ length here.sizes) × (here.x ≤ 255) × (here.y ≤ 255)
+    × (here.x ≡ here.v / 2 ^ width (drop here.k l)) × (here.y ≡ here.w / 2 ^ width (drop here.k l))
+    × Filling (values-by l here.h here.v here.w) here.g here.h here.k here.initial.values here.values × Filling (sizes-by l) here.g here.h here.k here.initial.sizes here.sizes
 
 abbrev pub decreases-loop-k : goal.decreases-loop-k
 decreases-loop-k l = l.k

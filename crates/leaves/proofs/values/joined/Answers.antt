@@ -12,11 +12,8 @@ use Rattle.sides.proofs.Fields.{one_shl}
 use Rattle.leaves.specs.Values.{Hot, sided}
 use Rattle.leaves.proofs.Joins.{join-start, join_more, join-end}
 use borrow.Author.Rules.{rules}
+use Rattle.leaves.proofs.values.joined.Invariants.{field}
 use Rattle.leaves.proofs.values.joined.Goals as goal
-
--- the field x of a lane's number
-abbrev field : Side → ℕ → ℕ
-field x v = v / 2 ^ x.shift % 2 ^ x.bits
 
 pub overflow_shl-count : goal.overflow_shl-count
 overflow_shl-count c = omega (arith, c.requires.0)

@@ -14,6 +14,10 @@ use Rattle.leaves.proofs.Joins.{join-start, join_more, join-end}
 use borrow.Author.Rules.{rules}
 use Rattle.leaves.proofs.values.joined.Given as goal
 
+-- the field x of a lane's number
+abbrev pub field : Side → ℕ → ℕ
+field x v = v / 2 ^ x.shift % 2 ^ x.bits
+
 abbrev pub invariant-loop-k : goal.invariant-loop-k
 invariant-loop-k l =
     (l.k ≤ l.count) × (l.count ≤ 16) × Hot (field l.x) l.count l.hot × Lanes (λ v. ltb (field l.x v) l.k && sided l.second l.op (field l.x v) l.x.size l.y l.n) l.r

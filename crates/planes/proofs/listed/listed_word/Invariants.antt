@@ -21,9 +21,9 @@ use borrow.Author.Rules.{rules}
 use Rattle.planes.proofs.listed.listed_word.Given as goal
 
 abbrev pub invariant-loop-k : goal.invariant-loop-k
-invariant-loop-k l =
-    let l = attrs_of record { count = l.initial.k; kinds = l.kinds; sizes = l.sizes; lists = [] } in
-    (l.k ≤ l.initial.k) × (l.initial.k ≤ 255) × (l.right ≤ 255 * (l.initial.k - l.k)) × (l.right ≡ width (drop l.k l)) × Told l.planes (λ v. in_lists (drop l.k l) (v % 2 ^ l.right)) l.r
+invariant-loop-k here =
+    let l = attrs_of record { count = here.initial.k; kinds = here.kinds; sizes = here.sizes; lists = [] } in
+    (here.k ≤ here.initial.k) × (here.initial.k ≤ 255) × (here.right ≤ 255 * (here.initial.k - here.k)) × (here.right ≡ width (drop here.k l)) × Told here.planes (λ v. in_lists (drop here.k l) (v % 2 ^ here.right)) here.r
 
 abbrev pub decreases-loop-k : goal.decreases-loop-k
 decreases-loop-k l = l.k

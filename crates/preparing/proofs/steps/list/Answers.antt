@@ -8,13 +8,8 @@ use lib.ListN.{length, get_or}
 use Rattle.prepared.specs.Level.{node_step, same_as, Listed}
 use Rattle.prepared.proofs.Lists.{listed_start, listed_more, listed-few, added-long, added-below}
 use borrow.Author.Rules.{rules}
+use Rattle.preparing.proofs.steps.list.Invariants.{Done}
 use Rattle.preparing.proofs.steps.list.Goals as goal
-
--- the steps of the first k nodes are listed
-abbrev Done : List ℕ → ℕ → List Bool → Bool → List Bool → List Bool → List ℕ → ℕ → ℕ → ℕ → ℕ → ℕ → List ℕ → Type 0
-Done nodes f flags wanted differ indexed bases own from k first m steps =
-    Listed (λ j. same_as wanted (get_or flags j false))
-    (λ j. node_step own from (get_or differ j false) (get_or indexed j false) (get_or nodes (64 * f + j) 0) j (get_or bases j 0)) k first m steps
 
 pub loop-k-init : goal.loop-k-init
 loop-k-init c = (search rules, search rules, search rules, listed_start _ _ _ _, λ j l. refl)

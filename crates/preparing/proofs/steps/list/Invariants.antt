@@ -10,6 +10,12 @@ use Rattle.prepared.proofs.Lists.{listed_start, listed_more, listed-few, added-l
 use borrow.Author.Rules.{rules}
 use Rattle.preparing.proofs.steps.list.Given as goal
 
+-- the steps of the first k nodes are listed
+abbrev pub Done : List ℕ → ℕ → List Bool → Bool → List Bool → List Bool → List ℕ → ℕ → ℕ → ℕ → ℕ → ℕ → List ℕ → Type 0
+Done nodes f flags wanted differ indexed bases own from k first m steps =
+    Listed (λ j. same_as wanted (get_or flags j false))
+    (λ j. node_step own from (get_or differ j false) (get_or indexed j false) (get_or nodes (64 * f + j) 0) j (get_or bases j 0)) k first m steps
+
 abbrev pub invariant-loop-k : goal.invariant-loop-k
 invariant-loop-k l =
     (l.k ≤ l.n) × (l.m ≤ l.k) × (length l.steps ≡ length l.initial.steps)

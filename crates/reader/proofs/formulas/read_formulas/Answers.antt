@@ -17,10 +17,8 @@ use Rattle.policy.specs.Rules.{lists_of, nodes_of, formulas_of}
 use Rattle.policy.specs.declared.Classes.{Classes}
 use Rattle.policy.proofs.Laws.{formulas-none, formulas-more, formulas-length}
 use Rattle.reader_head.proofs.Reached.{Reached, reached-none, reached-more, reached-all}
+use Rattle.reader.proofs.formulas.read_formulas.Invariants.{row}
 use Rattle.reader.proofs.formulas.read_formulas.Goals as goal
-
-abbrev row : Classes → List (List ℕ) → Format (List ℕ)
-row classes l = formula_format (lists_of classes) (length l)
 
 -- one more length of at most 64
 short-more : (l : List ℕ) (f n : ℕ) → f < length l → n ≤ 64 → ((g : ℕ) → g < f → get_or l g 0 ≤ 64) → (g : ℕ) → g < f + 1 → get_or (set l f n) g 0 ≤ 64

@@ -19,6 +19,9 @@ use Rattle.policy.proofs.Laws.{formulas-none, formulas-more, formulas-length}
 use Rattle.reader_head.proofs.Reached.{Reached, reached-none, reached-more, reached-all}
 use Rattle.reader.proofs.formulas.read_formulas.Given as goal
 
+abbrev pub row : Classes → List (List ℕ) → Format (List ℕ)
+row classes l = formula_format (lists_of classes) (length l)
+
 abbrev pub invariant-loop-f : goal.invariant-loop-f
 invariant-loop-f l =
     (l.f ≤ l.f-end) × (l.f-end ≡ 4 + l.permissions) × (length l.lengths ≡ 12) × (length l.nodes ≡ 768) × (l.p.pos ≤ l.initial.p.pos + 1288 * l.f)

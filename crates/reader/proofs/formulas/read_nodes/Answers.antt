@@ -16,10 +16,8 @@ use Rattle.policy.specs.declared.Classes.{Classes}
 use Rattle.policy.proofs.Laws.{nodes-none, nodes-more, nodes-length}
 use Rattle.reader.specs.Parts.{Earlier}
 use Rattle.reader_head.proofs.Reached.{Reached, reached-none, reached-more, reached-all}
+use Rattle.reader.proofs.formulas.read_nodes.Invariants.{row}
 use Rattle.reader.proofs.formulas.read_nodes.Goals as goal
-
-abbrev row : Classes → ℕ → List ℕ → Format ℕ
-row classes f l = node_format (lists_of classes) f (length l)
 
 earlier-set : (l m : List ℕ) (f i x : ℕ) → Earlier l m f → Earlier l (set m (64 * f + i) x) f
 earlier-set l m f i x r = record { same = λ j h. get_or-set_other m (64 * f + i) j x 0 (λ e. omega arith) ∙ r.same j h }

@@ -18,6 +18,9 @@ use Rattle.reader.specs.Parts.{Earlier}
 use Rattle.reader_head.proofs.Reached.{Reached, reached-none, reached-more, reached-all}
 use Rattle.reader.proofs.formulas.read_nodes.Given as goal
 
+abbrev pub row : Classes → ℕ → List ℕ → Format ℕ
+row classes f l = node_format (lists_of classes) f (length l)
+
 abbrev pub invariant-loop-i : goal.invariant-loop-i
 invariant-loop-i l =
     (l.i ≤ l.n) × (length l.nodes ≡ 768) × (l.p.pos ≤ l.initial.p.pos + 20 * l.i) × Earlier l.initial.nodes l.nodes l.f × Reached (row l.classes l.f) l.s l.n l.initial.p l.p (nodes_of l.nodes l.f l.i) l.i × CountIsPlace l.s l.p

@@ -15,10 +15,8 @@ use Rattle.policy.specs.declared.Class.{Class}
 use Rattle.policy.proofs.Laws.{sessions-none, sessions-more}
 use Rattle.reader.specs.Parts.{session_of}
 use Rattle.reader_head.proofs.Reached.{Reached, reached-none, reached-more, reached-all}
+use Rattle.reader.proofs.values.read_sessions.Invariants.{row}
 use Rattle.reader.proofs.values.read_sessions.Goals as goal
-
-abbrev row : ℕ → Class → List Session → Format Session
-row users class _ = session_format users (attrs_of class)
 
 pub loop-i-init : goal.loop-i-init
 loop-i-init c =

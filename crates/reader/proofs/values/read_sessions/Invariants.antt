@@ -17,6 +17,9 @@ use Rattle.reader.specs.Parts.{session_of}
 use Rattle.reader_head.proofs.Reached.{Reached, reached-none, reached-more, reached-all}
 use Rattle.reader.proofs.values.read_sessions.Given as goal
 
+abbrev pub row : ℕ → Class → List Session → Format Session
+row users class _ = session_format users (attrs_of class)
+
 abbrev pub invariant-loop-i : goal.invariant-loop-i
 invariant-loop-i l =
     (l.i ≤ l.i-end) × (l.i-end ≡ l.n) × (length l.list ≡ 32) × (length l.values ≡ 32) × (l.p.pos ≤ l.initial.p.pos + 12 * l.i)

@@ -13,10 +13,8 @@ use Rattle.policy.specs.Rules.{attrs_of, values_of}
 use Rattle.policy.specs.declared.Class.{Class}
 use Rattle.policy.proofs.Laws.{values-none, values-more}
 use Rattle.reader_head.proofs.Reached.{Reached, reached-none, reached-more, reached-all}
+use Rattle.reader.proofs.values.read_values.Invariants.{row}
 use Rattle.reader.proofs.values.read_values.Goals as goal
-
-abbrev row : Class → List ℕ → Format ℕ
-row class _ = value_format (attrs_of class)
 
 pub loop-i-init : goal.loop-i-init
 loop-i-init c =

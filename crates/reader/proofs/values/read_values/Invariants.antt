@@ -15,6 +15,9 @@ use Rattle.policy.proofs.Laws.{values-none, values-more}
 use Rattle.reader_head.proofs.Reached.{Reached, reached-none, reached-more, reached-all}
 use Rattle.reader.proofs.values.read_values.Given as goal
 
+abbrev pub row : Class → List ℕ → Format ℕ
+row class _ = value_format (attrs_of class)
+
 abbrev pub invariant-loop-i : goal.invariant-loop-i
 invariant-loop-i l =
     (l.i ≤ l.i-end) × (l.i-end ≡ l.n) × (length l.list ≡ 32) × (l.p.pos ≤ l.initial.p.pos + 8 * l.i) × Reached (row l.class) l.s l.n l.initial.p l.p (values_of record { count = l.i; values = l.list }) l.i × CountIsPlace l.s l.p

@@ -16,10 +16,8 @@ use Rattle.policy.specs.declared.Class.{Class}
 use Rattle.policy.proofs.Laws.{cut, attrs-none, attrs-more, sizes-none, sizes-more}
 use Rattle.reader_head.specs.Parts.{attr_of}
 use Rattle.reader_head.proofs.Reached.{Reached, reached-none, reached-more, reached-all}
+use Rattle.reader_head.proofs.lists.read_attrs.Invariants.{row}
 use Rattle.reader_head.proofs.lists.read_attrs.Goals as goal
-
-abbrev row : List ℕ → List Attr → Format Attr
-row known l = attr_format (sizes_after known l)
 
 pub loop-i-init : goal.loop-i-init
 loop-i-init c =

@@ -18,11 +18,14 @@ use Rattle.reader_head.specs.Parts.{attr_of}
 use Rattle.reader_head.proofs.Reached.{Reached, reached-none, reached-more, reached-all}
 use Rattle.reader_head.proofs.lists.read_attrs.Given as goal
 
+abbrev pub row : List ℕ → List Attr → Format Attr
+row known l = attr_format (sizes_after known l)
+
 abbrev pub invariant-loop-i : goal.invariant-loop-i
-invariant-loop-i l =
-    let l = attrs_of record { count = l.i; kinds = l.kinds; sizes = l.sizes; lists = l.lists } in
-    (l.i ≤ l.i-end) × (l.i-end ≡ l.n) × (length l.kinds ≡ 8) × (length l.sizes ≡ 8) × (length l.lists ≡ 8) × (length l.known ≡ length l.initial.known) × (l.p.pos ≤ l.initial.p.pos + 12 * l.i)
-    × (l.known ≡ sizes_after l.initial.known l) × Reached (row l.initial.known) l.s l.n l.initial.p l.p l l.i × CountIsPlace l.s l.p
+invariant-loop-i here =
+    let l = attrs_of record { count = here.i; kinds = here.kinds; sizes = here.sizes; lists = here.lists } in
+    (here.i ≤ here.i-end) × (here.i-end ≡ here.n) × (length here.kinds ≡ 8) × (length here.sizes ≡ 8) × (length here.lists ≡ 8) × (length here.known ≡ length here.initial.known) × (here.p.pos ≤ here.initial.p.pos + 12 * here.i)
+    × (here.known ≡ sizes_after here.initial.known l) × Reached (row here.initial.known) here.s here.n here.initial.p here.p l here.i × CountIsPlace here.s here.p
 
 abbrev pub decreases-loop-i : goal.decreases-loop-i
 decreases-loop-i l = l.i-end - l.i

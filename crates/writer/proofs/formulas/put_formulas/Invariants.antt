@@ -13,9 +13,9 @@ use Rattle.policy.proofs.Laws.{formulas-none, formulas-next, formulas-length}
 use Rattle.writer.proofs.formulas.put_formulas.Given as goal
 
 abbrev pub invariant-loop-f : goal.invariant-loop-f
-invariant-loop-f l =
-    (l.f ≤ l.f-end) × (length l.out ≡ length l.initial.out) × (l.p.pos ≤ l.initial.p.pos + 5108 * l.f)
-    × Stores (rows l.f (λ l. formula_format (lists_of l.classes) (length l))) (formulas_of l.nodes l.lengths l.f) l.initial.out l.out l.initial.p l.p
+invariant-loop-f here =
+    (here.f ≤ here.f-end) × (length here.out ≡ length here.initial.out) × (here.p.pos ≤ here.initial.p.pos + 5108 * here.f)
+    × Stores (rows here.f (λ l. formula_format (lists_of here.classes) (length l))) (formulas_of here.nodes here.lengths here.f) here.initial.out here.out here.initial.p here.p
 
 abbrev pub decreases-loop-f : goal.decreases-loop-f
 decreases-loop-f l = l.f-end - l.f

@@ -13,9 +13,9 @@ use Rattle.policy.proofs.Laws.{nodes-none, nodes-next, nodes-length}
 use Rattle.writer.proofs.formulas.put_nodes.Given as goal
 
 abbrev pub invariant-loop-i : goal.invariant-loop-i
-invariant-loop-i l =
-    (l.i ≤ l.i-end) × (length l.out ≡ length l.initial.out) × (l.p.pos ≤ l.initial.p.pos + 20 * l.i)
-    × Stores (rows l.i (λ l. node_format (lists_of l.classes) l.f (length l))) (nodes_of l.nodes l.f l.i) l.initial.out l.out l.initial.p l.p
+invariant-loop-i here =
+    (here.i ≤ here.i-end) × (length here.out ≡ length here.initial.out) × (here.p.pos ≤ here.initial.p.pos + 20 * here.i)
+    × Stores (rows here.i (λ l. node_format (lists_of here.classes) here.f (length l))) (nodes_of here.nodes here.f here.i) here.initial.out here.out here.initial.p here.p
 
 abbrev pub decreases-loop-i : goal.decreases-loop-i
 decreases-loop-i l = l.i-end - l.i

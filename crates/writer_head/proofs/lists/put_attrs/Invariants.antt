@@ -14,10 +14,10 @@ use Rattle.policy.proofs.Laws.{cut, attrs-none, attrs-next, attrs-length, sizes-
 use Rattle.writer_head.proofs.lists.put_attrs.Given as goal
 
 abbrev pub invariant-loop-i : goal.invariant-loop-i
-invariant-loop-i l =
-    (l.i ≤ l.i-end) × (length l.out ≡ length l.initial.out) × (length l.known ≡ length l.initial.known) × (l.p.pos ≤ l.initial.p.pos + 12 * l.i)
-    × (l.known ≡ sizes_after l.initial.known (attrs_of record { count = l.i; kinds = l.kinds; sizes = l.sizes; lists = l.lists }))
-    × Stores (rows l.i (λ l. attr_format (sizes_after l.initial.known l))) (attrs_of record { count = l.i; kinds = l.kinds; sizes = l.sizes; lists = l.lists }) l.initial.out l.out l.initial.p l.p
+invariant-loop-i here =
+    (here.i ≤ here.i-end) × (length here.out ≡ length here.initial.out) × (length here.known ≡ length here.initial.known) × (here.p.pos ≤ here.initial.p.pos + 12 * here.i)
+    × (here.known ≡ sizes_after here.initial.known (attrs_of record { count = here.i; kinds = here.kinds; sizes = here.sizes; lists = here.lists }))
+    × Stores (rows here.i (λ l. attr_format (sizes_after here.initial.known l))) (attrs_of record { count = here.i; kinds = here.kinds; sizes = here.sizes; lists = here.lists }) here.initial.out here.out here.initial.p here.p
 
 abbrev pub decreases-loop-i : goal.decreases-loop-i
 decreases-loop-i l = l.i-end - l.i

@@ -5,19 +5,6 @@ use Rattle.policy.specs.File.{count, head_format}
 use Rattle.writer_head.specs.Parts.{head_of}
 use Rattle.writer_head.proofs.put_counts.Goals as goal
 
-pub put_range-f-requires : goal.put_range-f-requires
-put_range-f-requires c = omega (arith, c)
-
-pub put_range-g-requires : goal.put_range-g-requires
-put_range-g-requires c = omega (arith, c)
-
-pub put_field-requires : goal.put_field-requires
-put_field-requires c = omega (arith, c)
-
-pub shape_of-out : goal.shape_of-out
-shape_of-out c =
-    omega (arith, k, c)
-
 pub returns : goal.returns
 unfolding head_format count head_of
 returns c =
@@ -29,4 +16,4 @@ returns c =
           (stores-pair _ _ c.put_range-d.ensures.stores
           (stores-pair _ _ c.put_range-e.ensures.stores
           (stores-pair _ _ c.put_range-f.ensures.stores c.put_range-g.ensures.stores))))))
-          c.put_field.ensures.stores); pos_bound = omega (arith, k₄) }
+          c.put_field.ensures.stores); pos_bound = omega arith }

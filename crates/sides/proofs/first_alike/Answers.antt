@@ -5,7 +5,7 @@ use borrow.Author.Rules.{rules}
 use Rattle.sides.proofs.first_alike.Goals as goal
 
 pub returns-then-not-x : goal.returns-then-not-x
-returns-then-not-x c = let a = c.args in record { upper_bound = c.start_of.ensures.upper_bound; result_value = alike-still a.x c.if-not-x.true _ a.i; result_value_2 = c.start_of.ensures.result_value }
+returns-then-not-x c = let a = c.args in record { upper_bound = c.start_of.ensures.upper_bound; result_value = alike-still a.x (not-true a.x.row c.if-not-x.true) _ a.i; result_value_2 = c.start_of.ensures.result_value }
 
 pub returns : goal.returns
 returns c =

@@ -6,7 +6,7 @@ use borrow.Author.Rules.{rules}
 use Rattle.sides.proofs.start_of.Goals as goal
 
 pub returns-then-not-s : goal.returns-then-not-s
-returns-then-not-s c = let a = c.args in record { upper_bound = omega arith; result_value = alike-still a.s c.if-not-s.true 0 a.i }
+returns-then-not-s c = let a = c.args in record { upper_bound = omega arith; result_value = alike-still a.s (not-true a.s.row c.if-not-s.true) 0 a.i }
 
 pub returns-then-s-ge8 : goal.returns-then-s-ge8
 returns-then-s-ge8 c = record { upper_bound = omega arith; result_value = alike-past c.args.s c.args.i c.requires c.if-s-ge8.true }

@@ -19,4 +19,4 @@ returns c = record { stores = stores-via _ _ _ (policy_of c.args.rules)
           (stores-pair _ _ c.put_classes-b.ensures.stores
           (stores-pair _ _ c.put_values-c.ensures.stores
           (stores-pair _ _ c.put_sessions-d.ensures.stores
-          (stores-pair _ _ c.put_values-e.ensures.stores c.put_formulas.ensures.stores))))); pos_bound = omega (arith, k₄) }
+          (stores-pair _ _ c.put_values-e.ensures.stores c.put_formulas.ensures.stores))))); pos_bound = omega arith }

@@ -15,7 +15,7 @@ use Rattle.leaves.proofs.fill_rows.Given as goal
 abbrev pub invariant-loop-i : goal.invariant-loop-i
 invariant-loop-i l =
     (l.i ≤ l.count) × (l.count ≤ 256) × (4 * (l.base + l.count) ≤ length l.initial.area) × (length l.area ≡ length l.initial.area)
-    × Rows (put_from l.base l.i (λ l.i. compared_in l.op (operand_at l.x l.i) (operand_at l.y l.i)) (bit_at l.initial.area)) l.area × (length l.hot ≡ 64) × Way l.way l.x l.y l.hot
+    × Rows (put_from l.base l.i (λ i. compared_in l.op (operand_at l.x i) (operand_at l.y i)) (bit_at l.initial.area)) l.area × (length l.hot ≡ 64) × Way l.way l.x l.y l.hot
 
 abbrev pub decreases-loop-i : goal.decreases-loop-i
 decreases-loop-i l = l.count - l.i

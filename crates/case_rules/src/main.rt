@@ -3,13 +3,13 @@
 // stands first; and where it is accepted, `read,` stands before what writing its rules back gives.
 #![tactic(auto)]
 
-ghost use Rattle.std.specs.Prelude.{◌+◌, ◌≤◌, ◌<◌, length};
+ghost use Rattle.std.specs.Prelude.{◌≤◌, ◌<◌, length, IfOk};
 
 mod change;
 
-use libc::STDOUT_FILENO;
 use policy::Rules;
 use rules::{Reading, Written};
+use std::io;
 
 // What the bytes that are written to hold before.
 const BEFORE: u8 = 170;
@@ -50,62 +50,60 @@ fn holds(out: &[u8; 4096], want: &[u8]) -> bool {
     true
 }
 
-fn print_refused(n: u8) {
-    io::write_all(STDOUT_FILENO, b" refused ");
-    io::print_decimal(STDOUT_FILENO, n as u64);
+fn print_refused(rt: &impl Print, n: u8) -> io::Result<()> {
+    print!(rt; " refused {n}")
 }
 
-fn print_ok(n: usize, right: bool) {
-    io::write_all(STDOUT_FILENO, b" ok ");
-    io::print_decimal(STDOUT_FILENO, n as u64);
+fn print_ok(rt: &impl Print, n: usize, right: bool) -> io::Result<()> {
+    print!(rt; " ok {n}")?;
     if right {
-        io::write_all(STDOUT_FILENO, b" same");
+        print!(rt; " same")
     } else {
-        io::write_all(STDOUT_FILENO, b" different");
+        print!(rt; " different")
     }
 }
 
 // Writes the rules to room bytes, and prints the answer.
-fn write_case(rules: Rules, room: usize, want: &[u8]) {
+fn write_case(rt: &impl Print, rules: Rules, room: usize, want: &[u8]) -> io::Result<()> {
     let mut out: [u8; 4096] = [BEFORE; 4096];
     if 4096 < room {
-        return;
+        return Ok(());
     }
     let w = rules::write_rules(rules, &mut out[0..room]);
     match w {
         Written::Length(n) => {
             let right = n == want.len() && holds(&out, want);
-            print_ok(n, right);
+            print_ok(rt, n, right)?;
         }
         Written::Refused(n) => {
-            print_refused(n);
+            print_refused(rt, n)?;
             if !holds(&out, b"") {
-                io::write_all(STDOUT_FILENO, b" touched");
+                print!(rt; " touched")?;
             }
         }
     }
+    Ok(())
 }
 
 // A file: how many bits were taken, what reading it answers, and if it is accepted what writing its rules back gives.
-fn read_case(file: &[u8]) {
+fn read_case(rt: &impl Print, file: &[u8]) -> io::Result<()> {
     let p = rules::read_rules(file);
-    io::write_all(STDOUT_FILENO, b" ");
-    io::print_decimal(STDOUT_FILENO, p.bits as u64);
-    io::write_all(STDOUT_FILENO, b" bits,");
+    let bits = p.bits;
+    print!(rt; " {bits} bits,")?;
     let answer = p.answer;
     match answer {
         Reading::Accepted => {
-            io::write_all(STDOUT_FILENO, b" read,");
-            write_case(p.rules, 4096, file);
+            print!(rt; " read,")?;
+            write_case(rt, p.rules, 4096, file)
         }
-        Reading::Refused(n) => print_refused(n),
+        Reading::Refused(n) => print_refused(rt, n),
     }
 }
 
 // The rules of a file, changed, are written. Returns the place after the record.
-fn changed_case(s: &[u8], at: usize, file: &[u8]) -> usize
+fn changed_case(rt: &impl Print, s: &[u8], at: usize, file: &[u8]) -> io::Result<usize>
     requires { at < 500000 }
-    ensures { (at < result) × (result < 600000) }
+    ensures { IfOk result (λ next. (at < next) × (next < 600000)) }
 {
     let p = rules::read_rules(file);
     let room = word(s, at);
@@ -119,67 +117,67 @@ fn changed_case(s: &[u8], at: usize, file: &[u8]) -> usize
     }
     let size = word(s, i);
     let want = part(s, i + 2, size);
-    write_case(rules, room, want);
-    i + 2 + size
+    write_case(rt, rules, room, want)?;
+    Ok(i + 2 + size)
 }
 
 // A question on sets: membership, subset or proper subset.
-fn print_set(what: usize, n: u64, x: u64, m: u64, y: u64) {
+fn print_set(rt: &impl Print, what: usize, n: u64, x: u64, m: u64, y: u64) -> io::Result<()> {
     let yes = match what {
         0 => bits::member(x, n, m),
         1 => bits::subset(x, n, y, m),
         _ => bits::proper(x, n, y, m),
     };
     if yes {
-        io::write_all(STDOUT_FILENO, b" yes");
+        print!(rt; " yes")
     } else {
-        io::write_all(STDOUT_FILENO, b" no");
+        print!(rt; " no")
     }
 }
 
 // One record. Returns the place after it.
-fn one(s: &[u8], at: usize) -> usize
+fn one(rt: &impl Print, s: &[u8], at: usize) -> io::Result<usize>
     requires { at < 65536 }
-    ensures { (at < result) × (result < 700000) }
+    ensures { IfOk result (λ next. (at < next) × (next < 700000)) }
 {
     if byte(s, at) == 2 {
         print_set(
+            rt,
             byte(s, at + 1),
             byte(s, at + 2) as u64,
             byte(s, at + 3) as u64,
             byte(s, at + 4) as u64,
             byte(s, at + 5) as u64,
-        );
-        return at + 6;
+        )?;
+        return Ok(at + 6);
     }
     let n = word(s, at + 1);
     let file = part(s, at + 3, n);
     let next = at + 3 + n;
     if byte(s, at) == 0 {
-        read_case(file);
-        return next;
+        read_case(rt, file)?;
+        return Ok(next);
     }
-    changed_case(s, next, file)
+    changed_case(rt, s, next, file)
 }
 
 // All records of s.
-fn all(s: &[u8])
+fn all(rt: &impl Print, s: &[u8]) -> io::Result<()>
     requires { length s.now ≤ 65536 }
 {
     let mut at: usize = 0;
     let mut k: u64 = 0;
     while at < s.len() {
         k += 1;
-        io::print_decimal(STDOUT_FILENO, k);
-        at = one(s, at);
-        io::write_all(STDOUT_FILENO, b"\n");
+        print!(rt; "{k}")?;
+        at = one(rt, s, at)?;
+        println!(rt;)?;
     }
-    io::print_decimal(STDOUT_FILENO, k);
-    io::write_all(STDOUT_FILENO, b" cases\n");
+    println!(rt; "{k} cases")
 }
 
-fn main() {
+fn main(rt: HostRuntime) -> io::Result<()> {
     let mut input: [u8; 65536] = [0; 65536];
-    let n = io::read_full(libc::STDIN_FILENO, &mut input);
-    all(&input[..n]);
+    let n = streams::read_full(&mut rt.stdin(), &mut input)?;
+    all(&rt, &input[..n])
 }

@@ -2,8 +2,8 @@
 // came to and the next numbers after it, and at the end the cells.
 #![tactic(auto)]
 
-use libc::STDOUT_FILENO;
 use live::{Next, Outcome};
+use std::io;
 
 // Rows, each as kind, actor, target, value and spare, and the answer that paper 01 gives, worked out by hand.
 const ROWS: [u64; 12] = [
@@ -24,37 +24,36 @@ const ROWS: [u64; 12] = [
 // What a cell holds that no step has written.
 const BEFORE: u64 = 7;
 
-fn print_number(n: u64) {
-    io::write_all(STDOUT_FILENO, b" ");
-    io::print_decimal(STDOUT_FILENO, n);
+fn print_number(rt: &impl Print, n: u64) -> io::Result<()> {
+    print!(rt; " {n}")
 }
 
-fn print_step(outcome: Outcome, next: Next) {
+fn print_step(rt: &impl Print, outcome: Outcome, next: Next) -> io::Result<()> {
     match outcome {
         Outcome::Done => {
-            io::write_all(STDOUT_FILENO, b"done");
+            print!(rt; "done")?;
         }
         Outcome::Refused(n) => {
-            io::write_all(STDOUT_FILENO, b"refused");
-            print_number(n as u64);
+            print!(rt; "refused")?;
+            print_number(rt, n as u64)?;
         }
     }
-    io::write_all(STDOUT_FILENO, b", next");
-    print_number(next.session);
-    print_number(next.item);
-    io::write_all(STDOUT_FILENO, b"\n");
+    print!(rt; ", next")?;
+    print_number(rt, next.session)?;
+    print_number(rt, next.item)?;
+    println!(rt;)
 }
 
-fn print_cells(cells: [u64; 2]) {
-    print_number(cells[0]);
-    print_number(cells[1]);
-    io::write_all(STDOUT_FILENO, b"\n");
+fn print_cells(rt: &impl Print, cells: [u64; 2]) -> io::Result<()> {
+    print_number(rt, cells[0])?;
+    print_number(rt, cells[1])?;
+    println!(rt;)
 }
 
-fn main() {
+fn main(rt: HostRuntime) -> io::Result<()> {
     // paper 01's counter file
     let file =
-        b"\x11\x11\x00\x00\x80\x84\x08\x40\x08\x08\x06\x50\x00\x00\x65\x00\x00\x05\x60\x28\x00\x62\x80\x80\x0_e\x28\x08\x15\x82\x84\x_c0\x00\x40";
+        b"\x11\x11\x00\x00\x80\x84\x08\x40\x08\x08\x06\x50\x00\x00\x65\x00\x00\x05\x60\x28\x00\x62\x80\x80\x0E\x28\x08\x15\x82\x84\xC0\x00\x40";
     let rows = ROWS;
     let mut sessions: [u64; 2] = [BEFORE; 2];
     let mut items: [u64; 2] = [BEFORE; 2];
@@ -62,15 +61,15 @@ fn main() {
     let rules = begun.rules;
     let mut next = begun.next;
     let outcome = begun.outcome;
-    print_step(outcome, next);
+    print_step(&rt, outcome, next)?;
     for k in 0..12 {
         let s = monitor::step_with(rules, &mut sessions, &mut items, next, rows[k]);
         let outcome = s.outcome;
         next = s.next;
-        print_step(outcome, next);
+        print_step(&rt, outcome, next)?;
     }
-    io::write_all(STDOUT_FILENO, b"sessions");
-    print_cells(sessions);
-    io::write_all(STDOUT_FILENO, b"items");
-    print_cells(items);
+    print!(rt; "sessions")?;
+    print_cells(&rt, sessions)?;
+    print!(rt; "items")?;
+    print_cells(&rt, items)
 }

@@ -1,4 +1,4 @@
--- Laws of the lines and of texts in lent bytes. In order: one text after another (`Holds`); numerals and `io`'s digits.
+-- Laws of the lines and of texts in lent bytes. In order: one text after another (`Holds`); numerals, a number's last digits and what std prints of it.
 -- Assumes nothing.
 use mathlib.Core.Path.{◌≡◌, refl, sym, ap, ◌∙◌, subst}
 use mathlib.Core.Logic.{◌⊎◌, ⊎_elim}
@@ -10,9 +10,11 @@ use native.Mathlib.Omega.{arith}
 use lib.ListN.{length, get_or, take, drop, length-append, length-take, length-drop, drop_of_length-le, take-append-drop}
 use lib.Seq.{length-take-le, paste, paste-zero, take_all, take-length, take-append-le, take-append-add, drop-append-add, take-append_seam, drop-drop}
 use borrow.Author.Tests.{lt-ltb, le-ltb}
+use Rattle.std.specs.Fmt.{decimal}
+use Rattle.std.proofs.lemmas.Fmt.{decimal_from_appends, length-decimal-le}
 use Rattle.lanes.proofs.Laws.{lt-or-ge}
 use Rattle.analyser.specs.Told.{Told}
-use Rattle.io.specs.Digits.{hex_digit_ascii, last_digits, IsDigitCount}
+use Rattle.output.specs.Digits.{hex_digit_ascii, last_digits, IsDigitCount}
 use Rattle.output.specs.Lines.{numeral_in, numeral, row_line, line_at}
 use Rattle.output.specs.Put.{over, fitting, put_at}
 
@@ -162,7 +164,7 @@ fewest-more n (suc (suc k)) w ten =
     let b : 10 ^ suc k ≤ n / 10 = subst (λ (x : ℕ). 10 ^ x ≤ n / 10) e (w.2 (omega arith)) in
     (omega arith, omega (arith, w.1, pow-suc 10 (suc (suc k))), λ more. subst (λ (x : ℕ). 10 ^ x ≤ n) (sym e') (omega (arith, pow-suc 10 (suc k))))
 
--- a numeral is the digits that `io` speaks of
+-- a numeral is the number's last digits
 numeral_in-digits : (f n k : ℕ) → n < 10 ^ suc f → IsDigitCount 10 1 n k → numeral_in (suc f) n ≡ last_digits 10 k n
 numeral_in-digits f n zero h w = absurd (let z : 1 ≤ 0 = w.0 in omega arith)
 numeral_in-digits f n (suc zero) h w =
@@ -202,6 +204,12 @@ numeral-digits n k h w = numeral_in-digits 19 n k (omega arith) w
 pub numeral-fewest : (n : ℕ) → n < 2 ^ 64 → IsDigitCount 10 1 n (length (numeral n))
 unfolding numeral
 numeral-fewest n h = numeral_in-fewest 19 n (omega arith)
+
+-- and what std prints of it
+pub numeral-decimal : (n : ℕ) → n < 2 ^ 64 → numeral n ≡ decimal n
+unfolding numeral
+numeral-decimal n h =
+    decimal_from_appends numeral_in (record { one = numeral_in-one; more = numeral_in-more }) 20 n h (length-decimal-le 20 n (omega arith) (omega arith) h)
 
 -- a line that is not the first is that of the row before it
 pub line_at-row : (t : Told) (n : ℕ) (rows : List ℕ) (i : ℕ) → (i ≡ 0 → ⊥) → line_at t n rows i ≡ row_line (get_or rows (i - 1) 0)

@@ -1,7 +1,7 @@
 -- What is proved of the lines. The proofs are in proofs/Theorems.antt.
 -- Assumes nothing.
 use Rattle.std.specs.Prelude.{◌≡◌, ℕ, ◌^◌, ◌<◌, length}
-use Rattle.io.specs.Digits.{last_digits, IsDigitCount}
+use Rattle.output.specs.Digits.{last_digits, IsDigitCount}
 use Rattle.output.specs.Lines.{numeral}
 
 -- a numeral is the number's last digits in base 10, and as few as hold it

@@ -8,7 +8,9 @@ ghost use Rattle.output.specs.Put.{over, fitting, put_at};
 
 use analyser::{Answer, Verdict};
 use cells::Row;
-use libc::STDOUT_FILENO;
+use itoa::Buffer;
+use std::io;
+use std::io::Write;
 
 const SPACE: u8 = 32;
 
@@ -44,9 +46,8 @@ fn put_number(n: u64, end: u8, out: &mut [u8], at: usize) -> usize
     ensures out_after { out.new ≡ put_at out.old at (numeral n ++ (end ∷ [])) }
     ensures upper_bound { result ≤ length out.new }
 {
-    let mut digits: [u8; 20] = [0; 20];
-    let k = io::decimal(n, &mut digits);
-    let next = put_bytes(&digits[..k], out, at);
+    let mut digits = Buffer::new();
+    let next = put_bytes(digits.format(n).as_bytes(), out, at);
     let last = [end];
     put_bytes(&last, out, next)
 }
@@ -126,17 +127,18 @@ pub fn line_of(a: Answer, rows: &[u64], i: usize, out: &mut [u8]) -> usize
 }
 
 // Prints line i.
-fn print_line(a: Answer, rows: &[u64], i: usize) {
+fn print_line<W: Write>(writer: &mut W, a: Answer, rows: &[u64], i: usize) -> io::Result<()> {
     let mut out: [u8; 32] = [0; 32];
     let n = line_of(a, rows, i, &mut out);
-    io::write_all(STDOUT_FILENO, &out[..n]);
+    writer.write_all(&out[..n])
 }
 
-// Prints the answer, and the leak's rows, which stand at the front of `rows`.
-pub fn print_answer(a: Answer, rows: &[u64]) {
-    print_line(a, rows, 0);
+// Prints the answer, and the leak's rows, which stand at the front of `rows`. The first write that fails ends it.
+pub fn print_answer<W: Write>(writer: &mut W, a: Answer, rows: &[u64]) -> io::Result<()> {
+    print_line(writer, a, rows, 0)?;
     let n = a.rows;
     for i in 0..n {
-        print_line(a, rows, i + 1);
+        print_line(writer, a, rows, i + 1)?;
     }
+    Ok(())
 }

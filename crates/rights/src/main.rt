@@ -2,10 +2,12 @@
 // the number. It lends the analyser 8,192 rows.
 #![tactic(auto)]
 
-fn main() {
+use std::io;
+
+fn main(rt: HostRuntime) -> io::Result<()> {
     let mut input: [u8; 4096] = program::input_buffer();
-    let n = io::read_full(libc::STDIN_FILENO, &mut input);
+    let n = streams::read_full(&mut rt.stdin(), &mut input)?;
     let mut rows: [u64; 8192] = [0; 8192];
     let a = program::answer_of(&input[..n], &mut rows);
-    output::print_answer(a, &rows);
+    output::print_answer(&mut rt.stdout(), a, &rows)
 }

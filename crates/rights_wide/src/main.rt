@@ -3,11 +3,12 @@
 #![tactic(auto)]
 
 use replay::question::Question;
+use std::io;
 
-fn main() {
+fn main(rt: HostRuntime) -> io::Result<()> {
     let mut input: [u8; 4096] = program::input_buffer();
-    let n = io::read_full(libc::STDIN_FILENO, &mut input);
+    let n = streams::read_full(&mut rt.stdin(), &mut input)?;
     let mut rows = [0u64; Question::ROWS];
     let a = program::answer_of(&input[..n], &mut rows);
-    output::print_answer(a, &rows);
+    output::print_answer(&mut rt.stdout(), a, &rows)
 }

@@ -4,8 +4,9 @@
 
 mod record;
 
-use libc::{STDIN_FILENO, STDOUT_FILENO};
 use rules::Written;
+use std::io;
+use std::io::Read;
 
 // So many records are answered at most.
 const RECORDS: u64 = 1000000;
@@ -17,51 +18,51 @@ fn digit(x: u8) -> u8 {
 }
 
 // A line of the first n bytes, two digits each.
-fn print_bytes(out: &[u8; 4096], n: usize) {
+fn print_bytes(rt: &impl Print, out: &[u8; 4096], n: usize) -> io::Result<()> {
     let mut line: [u8; 8193] = [10; 8193];
     if 4096 < n {
-        return;
+        return Ok(());
     }
     for i in 0..n {
         let b = out[i];
         line[2 * i] = digit(b / 16);
         line[2 * i + 1] = digit(b);
     }
-    io::write_all(STDOUT_FILENO, &line[0..2 * n + 1]);
+    rt.write_all(&line[0..2 * n + 1])
 }
 
-fn print_refused(n: u8) {
-    io::write_all(STDOUT_FILENO, b"REFUSED ");
-    io::print_decimal(STDOUT_FILENO, n as u64);
-    io::write_all(STDOUT_FILENO, b"\n");
+fn print_refused(rt: &impl Print, n: u8) -> io::Result<()> {
+    println!(rt; "REFUSED {n}")
 }
 
 // Writes the rules of a record to as many bytes as it says, and prints what comes of it.
-fn answer(bytes: &[u8]) {
+fn answer(rt: &impl Print, bytes: &[u8]) -> io::Result<()> {
     let mut out: [u8; 4096] = [0; 4096];
     let room = record::room_of(bytes);
     let w = rules::write_rules(record::rules_of(bytes), &mut out[0..room]);
     match w {
-        Written::Length(n) => print_bytes(&out, n),
-        Written::Refused(n) => print_refused(n),
+        Written::Length(n) => print_bytes(rt, &out, n),
+        Written::Refused(n) => print_refused(rt, n),
     }
 }
 
 // Answers the next record; false at the end, also where what is left is no whole record.
-fn one() -> bool {
+fn one<R: Read>(rt: &impl Print, input: &mut R) -> io::Result<bool> {
     let mut bytes: [u8; 3293] = [0; 3293];
-    let n = io::read_full(STDIN_FILENO, &mut bytes);
+    let n = streams::read_full(input, &mut bytes)?;
     if n < 3293 {
-        return false;
+        return Ok(false);
     }
-    answer(&bytes[..n]);
-    true
+    answer(rt, &bytes[..n])?;
+    Ok(true)
 }
 
-fn main() {
-    for k in 0..RECORDS {
-        if !one() {
-            return;
+fn main(rt: HostRuntime) -> io::Result<()> {
+    let mut input = rt.stdin();
+    for _ in 0..RECORDS {
+        if !one(&rt, &mut input)? {
+            return Ok(());
         }
     }
+    Ok(())
 }

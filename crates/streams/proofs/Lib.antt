@@ -1,0 +1,1 @@
+mod Filled  -- a read in place, and one read after another

@@ -41,11 +41,11 @@ hold (also e h) s a = rw e (hold h s a)
 
 -- an answer of the code is a test's: it held, or it didn't
 
-pub held : {b t : Bool} → b ≡ t → not b ≡ false → t ≡ true
-held {b} e h = sym e ∙ not-false b h
+pub held : {b t : Bool} → b ≡ t → b ≡ true → t ≡ true
+held e h = sym e ∙ h
 
-pub denied : {b t : Bool} → b ≡ t → not b ≡ true → t ≡ false
-denied {b} e h = sym e ∙ not-true b h
+pub denied : {b t : Bool} → b ≡ t → b ≡ false → t ≡ false
+denied e h = sym e ∙ h
 
 -- numbers and cells that are left
 

@@ -19,7 +19,7 @@ use Rattle.runs.specs.Reach.{Reach}
 use Rattle.runs.specs.Outcome.{Below}
 use Rattle.verdict.specs.Closure.{in_table}
 use Rattle.verdict.specs.Verdict.{reached, all_brought, pairs}
-use Rattle.verdict.proofs.Below.{not-both, bool_same, some_below}
+use Rattle.verdict.proofs.Below.{not-both, bool_same, some_below_lem}
 use Rattle.verdict.proofs.Decided.{star-map, opens-with, changes-to, reach-below, reached-is}
 use Rattle.search.specs.Queue.{nothing}
 use Rattle.search.specs.Sessions.{sessions_found}
@@ -85,8 +85,8 @@ module _ (m : Model) (start : State) (n k : ℕ) (B : Below m start n k) (hn : n
     pub any-is : (v : ℕ) → v < 256 → (any_has users v ≡ true) ↔ ((u : ℕ) × Reach m u v)
     unfolding any_has
     any-is v h = (
-      λ t. let (u, i, s) = (some_below (λ u. lane_of (user_found users u).seen v) 16).0 t in (u, (user-lane u v i h s).1),
-      λ p. (some_below (λ u. lane_of (user_found users u).seen v) 16).1 (p.0, omega (arith, few, (reach-below m start n k B p.1).0), lane-user p.0 v p.1),
+      λ t. let (u, i, s) = (some_below_lem (λ u. lane_of (user_found users u).seen v) 16).0 t in (u, (user-lane u v i h s).1),
+      λ p. (some_below_lem (λ u. lane_of (user_found users u).seen v) 16).1 (p.0, omega (arith, few, (reach-below m start n k B p.1).0), lane-user p.0 v p.1),
     )
 
     -- how many values a user's search has found

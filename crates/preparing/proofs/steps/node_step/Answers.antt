@@ -12,7 +12,7 @@ returns-then-not-differ c =
     let a = c.args in
     c.step.ensures ∙ sym
     (step-told a.own a.from a.differ a.indexed a.node a.k a.base
-    (not-true a.differ c.if-not-differ.true))
+    (c.if-not-differ.true))
 
 pub join_step-requires : goal.join_step-requires
 unfolding op_of
@@ -25,7 +25,7 @@ returns-then-node-lt5 c =
     c.join_step.ensures
     ∙ sym
     (step-join a.own a.from a.differ a.indexed a.node a.k a.base
-    (not-false a.differ c.if-not-differ.false) c.if-node-lt5.true)
+    (c.if-not-differ.false) c.if-node-lt5.true)
 
 pub returns-then-indexed : goal.returns-then-indexed
 unfolding op_of
@@ -34,7 +34,7 @@ returns-then-indexed c =
     c.step-then-indexed.ensures
     ∙ sym
     (step-taken a.own a.from a.differ a.indexed a.node a.k a.base
-    (not-false a.differ c.if-not-differ.false) (omega arith) c.if-indexed.true)
+    (c.if-not-differ.false) (omega arith) c.if-indexed.true)
 
 pub returns : goal.returns
 unfolding op_of
@@ -43,4 +43,4 @@ returns c =
     c.step-2.ensures
     ∙ sym
     (step-copied a.own a.from a.differ a.indexed a.node a.k a.base
-    (not-false a.differ c.if-not-differ.false) (omega arith) c.if-indexed.false)
+    (c.if-not-differ.false) (omega arith) c.if-indexed.false)

@@ -17,8 +17,9 @@ pub returns : goal.returns
 returns c =
     let a = c.args in
     let n = c.byte_at-n in
-    let k = c.prepare in let both = (
-      subst (λ (m : ℕ). Prepared (lists_of a.basis.classes) (nodes_of a.nodes.now a.f m) a.lane a.row a.outer k.result k.new.steps k.new.area) n.ensures
-          k.ensures.prepared,
-      k.ensures.UNKNOWN.1,
-    ) in record { prepared_for = both.0; steps_len_unchanged = both.1.0; area_len_unchanged = both.1.1 }
+    let k = c.prepare in record {
+      prepared_for = subst (λ (m : ℕ). Prepared (lists_of a.basis.classes) (nodes_of a.nodes.now a.f m) a.lane a.row a.outer k.result k.new.steps k.new.area) n.ensures
+          k.ensures.prepared;
+      steps_len_unchanged = k.ensures.steps_len_unchanged;
+      area_len_unchanged = k.ensures.area_len_unchanged;
+    }

@@ -8,6 +8,3 @@ prepare_with-requires c =
     let x = c.depends.ensures in
     let y = c.depends-2.ensures in
     let z = c.depends-3.ensures in record { n_bound = (c.requires.n_bound.0, c.requires.n_bound.1, omega (arith, c.requires, x.d_len_unchanged), omega (arith, c.requires, y.d_len_unchanged), omega (arith, c.requires, z.d_len_unchanged)); fact = c.requires.fact; row_in_bounds = c.requires.row_in_bounds; depends = x.depends; depends_2 = y.depends; depends_3 = z.depends }
-
-pub returns : goal.returns
-returns c = let both = c.prepare_with.ensures in record { prepared = both.0; steps_len_unchanged = both.1.0; area_len_unchanged = both.1.1 }

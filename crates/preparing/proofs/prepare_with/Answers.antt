@@ -60,8 +60,8 @@ returns c =
     let x = c.room_of-rows in
     let l = c.larger-room.ensures.lower_bound in
     let w = fits in
-    let d = c.requires.UNKNOWN.1.1.1 in record { prepared = prepared-of (lists_of a.classes) a.nodes.now a.f a.lane a.row a.outer a.n c.larger-room.result x.result y.result
-          a.onlane.now a.onrow.now a.onouter.now c.requires.fact d.0 d.1.0 d.1.1 c.requires.n_bound.0 w.0
+    record { prepared = prepared-of (lists_of a.classes) a.nodes.now a.f a.lane a.row a.outer a.n c.larger-room.result x.result y.result
+          a.onlane.now a.onrow.now a.onouter.now c.requires.fact c.requires.depends c.requires.depends_2 c.requires.depends_3 c.requires.n_bound.0 w.0
           x.ensures.value y.ensures.value x.ensures.result_nonzero.0 y.ensures.result_nonzero.0 l.0 l.1 e.new.area t.new.area o.new.area _
           (stored-none _ _ _ c.none.ensures e.ensures.rows) t.ensures.tables o.ensures.worked
           m.result.across m.result.board m.result.row m.ensures.three_lists

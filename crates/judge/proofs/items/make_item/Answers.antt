@@ -74,3 +74,6 @@ returns c =
     let h5 = held c.may_make.ensures c.if-not-may_make.false in
     judges a.sessions.now a.items.now a.next a.rules a.row making _ (makes _ _ _ a.next.item c.place.ensures c.item_cell.ensures)
     (session ∙ hold (also h2 (also h3 (also h4 (also h5 all)))) _ _)
+
+pub overflow_add-result : goal.overflow_add-result
+overflow_add-result c = let a = c.args in omega (arith, left-number a.items.now a.next.item (held c.is_left.ensures c.if-not-is_left.false))

@@ -15,7 +15,7 @@ use Rattle.allowed_rows.proofs.ScratchLaws.{scratch-wide, scratch-any}
 use Rattle.steps.proofs.Files.{file-sound}
 use Rattle.analyser.proofs.Decides.{refused-file-is-told}
 use Rattle.analyser.proofs.Refusals.{gives-number}
-use borrow.Author.Rules.{rules}
+use borrow.Author.Rules.{rules as search_rules}
 use Rattle.analyser.proofs.analyse.Goals as goal
 
 pub returns-in-Refused : goal.returns-in-Refused
@@ -61,7 +61,7 @@ answer_in-requires-2 c =
     let q = c.read_rules-parsed in
     was-accepted c.args.file.now q.result.answer (policy_of q.result.rules) q.ensures.rules_value c.in-Accepted.is in
     let sound : Sound (policy_of c.read_rules-parsed.result.rules) =
-    file-sound _ _ accepted in record { file_value = accepted; scratch = λ b steps B long. scratch-any _ b steps _ B (sound) long (search rules) }
+    file-sound _ _ accepted in record { file_value = accepted; scratch = λ b steps B long. scratch-any _ b steps _ B (sound) long (search search_rules) }
 
 pub returns : goal.returns
 returns c = c.answer_in-2.ensures

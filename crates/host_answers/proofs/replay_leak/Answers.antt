@@ -6,4 +6,8 @@ use Rattle.host_answers.proofs.replay_leak.Goals as goal
 
 pub returns : goal.returns
 returns c =
-    let k = c.replay-played in let both = (c.number_of.ensures ∙ ap host_number k.ensures.result_value, k.ensures.UNKNOWN.1) in record { value = both.0; sessions_after = both.1.0; after = both.1.1 }
+    let k = c.replay-played in record {
+      value = c.number_of.ensures ∙ ap host_number k.ensures.result_value;
+      sessions_after = k.ensures.sessions_after;
+      after = k.ensures.after;
+    }

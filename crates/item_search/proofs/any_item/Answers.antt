@@ -27,8 +27,7 @@ asked-begun-requires c =
 
 pub grow-head-requires : goal.grow-head-requires
 grow-head-requires c =
-    let k = c.asked-begun.auto.UNKNOWN.1.1.1.1.1 in
-    let p = c.requires in record { long = search rules; in_lists = p.in_lists; scratch = scratch-kept p.scratch k.1.0 k.0 }
+    let p = c.requires in record { long = search rules; in_lists = p.in_lists; scratch = scratch-kept p.scratch c.asked-begun.auto.steps c.asked-begun.auto.area }
 
 pub shape_of-area : goal.shape_of-area
 shape_of-area c = c.grow-head.auto.area ∙ c.asked-begun.auto.area

@@ -35,7 +35,7 @@ answer_in-requires c =
     let enough : (n : ℕ) → c.widest-w.result ≤ n → (area : List ℕ) → 4 * (193 + 64 * 2 ^ n) ≤ length area
     → (b : Basis) (steps : List ℕ) → BasisOf c.read_rules-parsed.result.rules b → 192 ≤ length steps → Scratch b steps area =
     λ n. λ narrow. λ area. λ large. λ b. λ steps. λ B. λ long. let (u, s, i) = c.widest-w.ensures in
-    scratch-wide _ b steps area n B sound (omega (arith, u)) (omega (arith, s)) (omega (arith, i)) long large in record { file_value = accepted; scratch = enough 2 c.if-w-le2.taken _ (omega arith) }
+    scratch-wide _ b steps area n B sound (omega (arith, u)) (omega (arith, s)) (omega (arith, i)) long large in record { file_value = accepted; scratch = enough 2 c.if-w-le2.true _ (omega arith) }
 
 pub returns-then-w-le2 : goal.returns-then-w-le2
 returns-then-w-le2 c = c.answer_in.ensures
@@ -50,7 +50,7 @@ answer_in-requires-then-w-le5 c =
     let enough : (n : ℕ) → c.widest-w.result ≤ n → (area : List ℕ) → 4 * (193 + 64 * 2 ^ n) ≤ length area
     → (b : Basis) (steps : List ℕ) → BasisOf c.read_rules-parsed.result.rules b → 192 ≤ length steps → Scratch b steps area =
     λ n. λ narrow. λ area. λ large. λ b. λ steps. λ B. λ long. let (u, s, i) = c.widest-w.ensures in
-    scratch-wide _ b steps area n B sound (omega (arith, u)) (omega (arith, s)) (omega (arith, i)) long large in record { file_value = accepted; scratch = enough 5 c.if-w-le5.taken _ (omega arith) }
+    scratch-wide _ b steps area n B sound (omega (arith, u)) (omega (arith, s)) (omega (arith, i)) long large in record { file_value = accepted; scratch = enough 5 c.if-w-le5.true _ (omega arith) }
 
 pub returns-then-w-le5 : goal.returns-then-w-le5
 returns-then-w-le5 c = c.answer_in-then-w-le5.ensures

@@ -24,7 +24,7 @@ returns-then-not-asks c =
     let q = c.read_rules-parsed in
     was-accepted c.args.file.now q.result.answer (policy_of q.result.rules) q.ensures.rules_value c.in-Accepted.is in
     let a = c.args in let both = leaving
-    (replay-unasked a.question.now a.rows.now a.sessions.now a.items.now _ (read) (denied c.asks.ensures c.if-not-asks.taken)) in record { result_value = both.0; sessions_after = both.1.0; after = both.1.1 }
+    (replay-unasked a.question.now a.rows.now a.sessions.now a.items.now _ (read) (denied c.asks.ensures c.if-not-asks.true)) in record { result_value = both.0; sessions_after = both.1.0; after = both.1.1 }
 
 pub returns-in-Refused-outcome : goal.returns-in-Refused-outcome
 returns-in-Refused-outcome c =
@@ -32,7 +32,7 @@ returns-in-Refused-outcome c =
     let q = c.read_rules-parsed in
     was-accepted c.args.file.now q.result.answer (policy_of q.result.rules) q.ensures.rules_value c.in-Accepted.is in
     let asking : asks (policy_of c.read_rules-parsed.result.rules) c.args.question.now ≡ true =
-    held c.asks.ensures c.if-not-asks.left in
+    held c.asks.ensures c.if-not-asks.false in
     let a = c.args in let both = leaving
     (replay-unstarted a.question.now a.rows.now a.sessions.now a.items.now _ (read) (asking) c.start_with-begun.ensures (ap refusal_of c.in-Refused-outcome.is)) in record { result_value = both.0; sessions_after = both.1.0; after = both.1.1 }
 
@@ -42,10 +42,10 @@ returns-then-ran-rows c =
     let q = c.read_rules-parsed in
     was-accepted c.args.file.now q.result.answer (policy_of q.result.rules) q.ensures.rules_value c.in-Accepted.is in
     let asking : asks (policy_of c.read_rules-parsed.result.rules) c.args.question.now ≡ true =
-    held c.asks.ensures c.if-not-asks.left in
+    held c.asks.ensures c.if-not-asks.false in
     let a = c.args in let both = leaving
     (replay-stopped a.question.now a.rows.now a.sessions.now a.items.now _ (read) (asking)
-    c.start_with-begun.ensures (ap refusal_of c.in-Done.is) c.steps_at-ran.ensures (rows-fewer _ _ _ a.rows.now c.steps_at-ran.ensures c.if-ran-rows.taken).1) in record { result_value = both.0; sessions_after = both.1.0; after = both.1.1 }
+    c.start_with-begun.ensures (ap refusal_of c.in-Done.is) c.steps_at-ran.ensures (rows-fewer _ _ _ a.rows.now c.steps_at-ran.ensures c.if-ran-rows.true).1) in record { result_value = both.0; sessions_after = both.1.0; after = both.1.1 }
 
 pub returns-then-last_fits : goal.returns-then-last_fits
 returns-then-last_fits c =
@@ -53,11 +53,11 @@ returns-then-last_fits c =
     let q = c.read_rules-parsed in
     was-accepted c.args.file.now q.result.answer (policy_of q.result.rules) q.ensures.rules_value c.in-Accepted.is in
     let asking : asks (policy_of c.read_rules-parsed.result.rules) c.args.question.now ≡ true =
-    held c.asks.ensures c.if-not-asks.left in
+    held c.asks.ensures c.if-not-asks.false in
     let a = c.args in let both = leaving
     (replay-shown a.question.now a.rows.now a.sessions.now a.items.now _ (read) (asking)
-    c.start_with-begun.ensures (ap refusal_of c.in-Done.is) c.steps_at-ran.ensures (rows-every _ _ _ a.rows.now c.steps_at-ran.ensures c.if-ran-rows.left)
-    (c.last_fits.ensures _) c.of.ensures c.if-last_fits.taken) in record { result_value = both.0; sessions_after = both.1.0; after = both.1.1 }
+    c.start_with-begun.ensures (ap refusal_of c.in-Done.is) c.steps_at-ran.ensures (rows-every _ _ _ a.rows.now c.steps_at-ran.ensures c.if-ran-rows.false)
+    (c.last_fits.ensures _) c.of.ensures c.if-last_fits.true) in record { result_value = both.0; sessions_after = both.1.0; after = both.1.1 }
 
 pub returns-else-last_fits : goal.returns-else-last_fits
 returns-else-last_fits c =
@@ -65,8 +65,8 @@ returns-else-last_fits c =
     let q = c.read_rules-parsed in
     was-accepted c.args.file.now q.result.answer (policy_of q.result.rules) q.ensures.rules_value c.in-Accepted.is in
     let asking : asks (policy_of c.read_rules-parsed.result.rules) c.args.question.now ≡ true =
-    held c.asks.ensures c.if-not-asks.left in
+    held c.asks.ensures c.if-not-asks.false in
     let a = c.args in let both = leaving
     (replay-missed a.question.now a.rows.now a.sessions.now a.items.now _ (read) (asking)
-    c.start_with-begun.ensures (ap refusal_of c.in-Done.is) c.steps_at-ran.ensures (rows-every _ _ _ a.rows.now c.steps_at-ran.ensures c.if-ran-rows.left)
-    (c.last_fits.ensures _) c.of.ensures c.if-last_fits.left) in record { result_value = both.0; sessions_after = both.1.0; after = both.1.1 }
+    c.start_with-begun.ensures (ap refusal_of c.in-Done.is) c.steps_at-ran.ensures (rows-every _ _ _ a.rows.now c.steps_at-ran.ensures c.if-ran-rows.false)
+    (c.last_fits.ensures _) c.of.ensures c.if-last_fits.false) in record { result_value = both.0; sessions_after = both.1.0; after = both.1.1 }

@@ -31,35 +31,31 @@ shape_of-area-then-value-lt256 c =
 
 pub returns-then-value-lt256 : goal.returns-then-value-lt256
 returns-then-value-lt256 c =
-    let start : tie.Start invariant-loop decreases-loop =
-    c in
     let model : Model =
-    model_by start.args.basis start.args.nodes.now in
+    model_by c.args.basis c.args.nodes.now in
     let among : ℕ → Bool =
     lane_of c.and-asked.result in
     let value : ℕ =
     get_or c.order_of-order.result c.loop-i.i 0 in
-    let lowest-is : c.lowest-value.result ≡ hit_on model start.args.permission among value =
+    let lowest-is : c.lowest-value.result ≡ hit_on model c.args.permission among value =
     let r = c.accessors in
-    c.lowest-value.ensures ∙ lowest-lanes _ r.result r.ensures.lanes ∙ ap (hit_on model start.args.permission among) c.byte_at-o.ensures in
-    let l = c.loop-i in let both = hit-here (model) c.args.permission c.args.q c.args.who c.args.basis.sessions _ c.requires.in_lists.sessions c.and-asked.ensures
-    _ c.order_of-order.ensures _ l.i c.few-i-end.ensures l.invariant.4 _ c.loop-i-test.true c.if-value-lt256.true (lowest-is) in record { place_value = both.0; value_value = both.1 }
+    c.lowest-value.ensures ∙ lowest-lanes _ r.result r.ensures.lanes ∙ ap (hit_on model c.args.permission among) c.byte_at-o.ensures in
+    let l = c.loop-i in let both = hit-here model c.args.permission c.args.q c.args.who c.args.basis.sessions _ c.requires.in_lists.sessions c.and-asked.ensures
+    _ c.order_of-order.ensures _ l.i c.few-i-end.ensures l.invariant.4 _ c.loop-i-test.true c.if-value-lt256.true lowest-is in record { place_value = both.0; value_value = both.1 }
 
 pub loop-i-preserved : goal.loop-i-preserved
 loop-i-preserved c =
-    let start : tie.Start invariant-loop decreases-loop =
-    c in
     let model : Model =
-    model_by start.args.basis start.args.nodes.now in
+    model_by c.args.basis c.args.nodes.now in
     let among : ℕ → Bool =
     lane_of c.and-asked.result in
     let value : ℕ =
     get_or c.order_of-order.result c.loop-i.i 0 in
-    let lowest-is : c.lowest-value.result ≡ hit_on model start.args.permission among value =
+    let lowest-is : c.lowest-value.result ≡ hit_on model c.args.permission among value =
     let r = c.accessors in
-    c.lowest-value.ensures ∙ lowest-lanes _ r.result r.ensures.lanes ∙ ap (hit_on model start.args.permission among) c.byte_at-o.ensures in
-    let lowest-off : 256 ≤ c.lowest-value.result → hit_on model start.args.permission among value ≡ 256 =
-    λ h. omega (arith, lowest-is, hit_few model start.args.permission among value) in
+    c.lowest-value.ensures ∙ lowest-lanes _ r.result r.ensures.lanes ∙ ap (hit_on model c.args.permission among) c.byte_at-o.ensures in
+    let lowest-off : 256 ≤ c.lowest-value.result → hit_on model c.args.permission among value ≡ 256 =
+    λ h. omega (arith, lowest-is, hit_few model c.args.permission among value) in
     let l = c.loop-i in
     let r = c.accessors in
     (search rules, l.invariant.1, r.ensures.area_len_unchanged ∙ l.invariant.2, r.ensures.access_ready, below_more _ _ l.invariant.4 (lowest-off c.if-value-lt256.false))

@@ -39,7 +39,7 @@ pub returns : goal.returns
 returns c =
     let byte-values : (j : ℕ) → j < length (values_of c.args.items) → get_or (values_of c.args.items) j 0 < 256 =
     λ j. λ h. let v = c.args.items in
-    let f : Fits w8 (get_or v.values j 0) = elem_fits_field w8 w8 v.values _ j c.well_formed.1.1.1.1.1.0.1.1.1.0.1.1 tt in
+    let f : Fits w8 (get_or v.values j 0) = search rules in
     let l : j < v.count = omega (arith, values_length v) in
     omega (arith, value-at v j l) in
     let a = c.args in

@@ -3,7 +3,7 @@ use mathlib.Core.Path.{◌≡◌, sym, ◌∙◌}
 use native.Mathlib.Omega.{arith}
 use lib.ListN.{length, get_or-eq_default}
 use Rattle.search.specs.Queue.{nothing}
-use Rattle.session_rows.proofs.Laws.{get_d_any}
+use Rattle.session_rows.proofs.Laws.{get_or_any}
 use borrow.Author.Rules.{rules}
 use Rattle.session_rows.proofs.search_of.Goals as goal
 
@@ -11,7 +11,7 @@ pub returns-then-u-lt16 : goal.returns-then-u-lt16
 returns-then-u-lt16 c =
     let a = c.args in
     let n : length a.users ≡ 16 = c.well_formed.0.1.0.1 in
-    get_d_any a.users a.u _ _ (omega arith)
+    get_or_any a.users a.u _ _ (omega arith)
 
 pub returns-else-u-lt16 : goal.returns-else-u-lt16
 returns-else-u-lt16 c =

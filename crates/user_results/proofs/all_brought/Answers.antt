@@ -10,7 +10,7 @@ use Rattle.lanes.specs.Lanes.{lane_of}
 use Rattle.policy.specs.Rules.{sessions_of}
 use Rattle.search.specs.Queue.{nothing}
 use Rattle.search.specs.declared.queue.Found.{Found}
-use Rattle.session_rows.proofs.Laws.{get_d_any}
+use Rattle.session_rows.proofs.Laws.{get_or_any}
 use Rattle.user_results.proofs.Starts.{session-at, found_all, found-not, brought, brought-none}
 use Rattle.policy.specs.Policy.{Session}
 use Rattle.policy.proofs.Laws.{sessions-length}
@@ -41,7 +41,7 @@ returns-then-not-has c =
     let v = c.byte_at in
     found-not a.users d (sessions_of a.starting) l.k (omega (arith, sessions-length a.starting))
     (ap (brought a.users) (session-at a.starting l.k d (omega arith)) ∙ ap₂ (λ (j w : ℕ). lane_of (user_found a.users j).seen w) (sym u.ensures) (sym v.ensures)
-    ∙ sym (ap (λ (q : Found). lane_of q.seen v.result) (get_d_any a.users u.result _ nothing (omega arith))) ∙ sym c.has.ensures ∙ c.if-not-has.true)
+    ∙ sym (ap (λ (q : Found). lane_of q.seen v.result) (get_or_any a.users u.result _ nothing (omega arith))) ∙ sym c.has.ensures ∙ c.if-not-has.true)
 
 pub loop-k-preserved : goal.loop-k-preserved
 loop-k-preserved c =
@@ -53,7 +53,7 @@ loop-k-preserved c =
       search rules,
       below_more _ _ l.invariant.1
           (ap₂ (λ (j w : ℕ). lane_of (user_found a.users j).seen w) (sym u.ensures) (sym v.ensures)
-          ∙ sym (ap (λ (q : Found). lane_of q.seen v.result) (get_d_any a.users u.result _ nothing (omega arith))) ∙ sym c.has.ensures ∙ c.if-not-has.false),
+          ∙ sym (ap (λ (q : Found). lane_of q.seen v.result) (get_or_any a.users u.result _ nothing (omega arith))) ∙ sym c.has.ensures ∙ c.if-not-has.false),
     )
 
 pub returns : goal.returns

@@ -10,7 +10,7 @@ use Rattle.lanes.specs.Lanes.{lane_of}
 use Rattle.policy.specs.Rules.{sessions_of}
 use Rattle.search.specs.Queue.{nothing}
 use Rattle.search.specs.declared.queue.Found.{Found}
-use Rattle.session_rows.proofs.Laws.{get_d_any}
+use Rattle.session_rows.proofs.Laws.{get_or_any}
 use Rattle.user_results.proofs.Starts.{session-at, found_all, found-not, brought, brought-none}
 use Rattle.policy.specs.Policy.{Session}
 use Rattle.policy.proofs.Laws.{sessions-length}

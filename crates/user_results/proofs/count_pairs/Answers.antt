@@ -6,7 +6,7 @@ use native.Mathlib.Omega.{arith}
 use lib.ListN.{length}
 use Rattle.search.specs.Queue.{nothing}
 use Rattle.search.specs.declared.queue.Found.{Found}
-use Rattle.session_rows.proofs.Laws.{get_d_any}
+use Rattle.session_rows.proofs.Laws.{get_or_any}
 use Rattle.user_results.proofs.Laws.{pairs-none, pairs-more}
 use Rattle.user_results.specs.Found.{found_pairs}
 use borrow.Author.Rules.{rules}
@@ -21,7 +21,7 @@ overflow_add-n c =
     let l = c.loop-u in
     let n : length a.users ≡ 16 = search rules in
     let d : Found = record { seen = []; order = []; from = []; via = []; depth = []; place = []; len = 0 } in
-    let same = ap (λ (q : Found). q.len) (get_d_any a.users l.u d nothing (omega arith)) in
+    let same = ap (λ (q : Found). q.len) (get_or_any a.users l.u d nothing (omega arith)) in
     omega (arith, c.requires l.u (omega arith), same)
 
 pub loop-u-preserved : goal.loop-u-preserved
@@ -29,7 +29,7 @@ loop-u-preserved c =
     let a = c.args in
     let l = c.loop-u in
     let n : length a.users ≡ 16 = search rules in
-    let same = ap (λ (q : Found). q.len) (get_d_any a.users l.u _ nothing (omega arith)) in
+    let same = ap (λ (q : Found). q.len) (get_or_any a.users l.u _ nothing (omega arith)) in
     (search rules, ap₂ ◌+◌ l.invariant.1 same ∙ sym (pairs-more a.users l.u), omega (arith, c.requires l.u (omega arith), same))
 
 pub returns : goal.returns

@@ -6,7 +6,7 @@ use native.Mathlib.Omega.{arith}
 use lib.ListN.{length}
 use Rattle.search.specs.Queue.{nothing}
 use Rattle.search.specs.declared.queue.Found.{Found}
-use Rattle.session_rows.proofs.Laws.{get_d_any}
+use Rattle.session_rows.proofs.Laws.{get_or_any}
 use Rattle.user_results.proofs.Laws.{pairs-none, pairs-more}
 use Rattle.user_results.specs.Found.{found_pairs}
 use borrow.Author.Rules.{rules}

@@ -7,7 +7,7 @@ use lib.ListN.{length}
 use Rattle.lanes.specs.Lanes.{lane_of, Lanes}
 use Rattle.search.specs.Queue.{nothing}
 use Rattle.search.specs.declared.queue.Found.{Found}
-use Rattle.session_rows.proofs.Laws.{get_d_any}
+use Rattle.session_rows.proofs.Laws.{get_or_any}
 use Rattle.user_results.proofs.Laws.{some_has, some-zero, some_more, any-has}
 use Rattle.lanes.proofs.Laws.{lanes-as}
 use borrow.Author.Rules.{rules}
@@ -21,7 +21,7 @@ loop-u-preserved c =
     let a = c.args in
     let l = c.loop-u in
     let n : length a.users ≡ 16 = search rules in
-    let same = get_d_any a.users l.u _ nothing (omega arith) in (
+    let same = get_or_any a.users l.u _ nothing (omega arith) in (
       search rules,
       record {
         long = c.or-t.ensures.long;

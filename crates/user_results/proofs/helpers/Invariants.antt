@@ -7,7 +7,7 @@ use lib.ListN.{length}
 use Rattle.lanes.specs.Lanes.{lane_of, Lanes}
 use Rattle.search.specs.Queue.{nothing}
 use Rattle.search.specs.declared.queue.Found.{Found}
-use Rattle.session_rows.proofs.Laws.{get_d_any}
+use Rattle.session_rows.proofs.Laws.{get_or_any}
 use Rattle.user_results.proofs.Laws.{some_has, some-zero, some_more, any-has}
 use Rattle.lanes.proofs.Laws.{lanes-as}
 use borrow.Author.Rules.{rules}

@@ -5,7 +5,7 @@ use native.Mathlib.Omega.{arith}
 use lib.ListN.{length}
 use Rattle.search.specs.Queue.{nothing}
 use Rattle.search.specs.declared.queue.Found.{Found}
-use Rattle.session_rows.proofs.Laws.{get_d_any}
+use Rattle.session_rows.proofs.Laws.{get_or_any}
 use Rattle.user_results.proofs.Laws.{Naming, naming-none, naming-more, naming-all}
 use borrow.Author.Rules.{rules}
 use Rattle.user_results.proofs.name_users.Goals as goal
@@ -18,7 +18,7 @@ loop-u-preserved c =
     let a = c.args in
     let l = c.loop-u in
     let n : length a.users ≡ 16 = search rules in
-    let same = get_d_any a.users l.u _ nothing (omega arith) in
+    let same = get_or_any a.users l.u _ nothing (omega arith) in
     (search rules, naming-more a.users l.by _ l.u a.asked l.invariant.1 (ap (λ (q : Found). q.seen) (sym same)) c.name_user-t.result c.name_user-t.ensures)
 
 pub returns : goal.returns

@@ -16,11 +16,12 @@ use Rattle.allowed_rows.specs.Basis.{rules_by, model_by}
 use Rattle.search.specs.Queue.{nothing}
 use Rattle.search.specs.Sessions.{sessions_found}
 use Rattle.search.specs.declared.queue.Found.{Found}
-use Rattle.session_rows.proofs.Laws.{get_d_any}
+use Rattle.session_rows.proofs.Laws.{get_or_any}
 use Rattle.user_searches.specs.Opened.{opens_in}
 use Rattle.user_searches.proofs.Laws.{Filled, filled_none, filled_more, found_alike}
 use borrow.Author.Rules.{rules}
 use Rattle.user_searches.proofs.search_each.Goals as goal
+use Rattle.user_searches.proofs.search_each.Goals.{then-w-u, else-w-u}
 
 pub loop-u-init : goal.loop-u-init
 loop-u-init c = (search rules, refl, c.requires.change_prepared, filled_none _)
@@ -32,7 +33,7 @@ bounds-users-w c =
 
 pub search_user-q-requires : goal.search_user-q-requires
 search_user-q-requires c =
-    let l = c.loop-u in record { in_lists = c.requires.in_lists; change_prepared = l.invariant.2; lanes = subst (Lanes (opens_in c.args.basis c.args.nodes.now l.u)) (get_d_any c.args.opened l.u [] _ (omega (arith, c.requires.opened.long))) (c.requires.opened.each l.u (omega arith)) }
+    let l = c.loop-u in record { in_lists = c.requires.in_lists; change_prepared = l.invariant.2; lanes = subst (Lanes (opens_in c.args.basis c.args.nodes.now l.u)) (get_or_any c.args.opened l.u [] _ (omega (arith, c.requires.opened.long))) (c.requires.opened.each l.u (omega arith)) }
 
 pub loop-u-preserved : goal.loop-u-preserved
 loop-u-preserved c =
@@ -41,18 +42,23 @@ loop-u-preserved c =
     let r = rules_by c.args.basis c.args.nodes.now in
     let P : ℕ → Found → Type 0 = λ k q. q ≡ cond (ltb k (model_of (policy_of r)).users) (sessions_found (model_of (policy_of r)) k) nothing in (
       search rules,
-      ⊎_elim (λ z. ap length z.2 ∙ l.invariant.1) (λ z. ap length z.6 ∙ z.3.kept.1.1.0 ∙ l.invariant.1) c.if-w-u.branch,
-      ⊎_elim (λ z. subst (ChangePrepared c.args.basis c.args.nodes.now c.args.plan c.args.steps.now) (sym z.2) l.invariant.2)
-          (λ z. subst (ChangePrepared c.args.basis c.args.nodes.now c.args.plan c.args.steps.now) (sym z.6) z.3.ensures.1) c.if-w-u.branch,
+      elim c.if-w-u.branch [
+        | then-w-u w ↦ ap length w.area-is ∙ l.invariant.1
+        | else-w-u w ↦ ap length w.area-is ∙ w.search_user-q.auto.area ∙ l.invariant.1
+      ],
+      elim c.if-w-u.branch [
+        | then-w-u w ↦ subst (ChangePrepared c.args.basis c.args.nodes.now c.args.plan c.args.steps.now) (sym w.area-is) l.invariant.2
+        | else-w-u w ↦ subst (ChangePrepared c.args.basis c.args.nodes.now c.args.plan c.args.steps.now) (sym w.area-is) w.search_user-q.ensures.change_prepared_2
+      ],
       filled_more l.users l.u c.if-w-u.q (omega arith) l.invariant.3
-          (⊎_elim
-          (λ z.
-          let (there, same) = ⊎_elim (λ (e : f.result ≡ l.u). absurd (omega (arith, z.0.taken))) (λ x. x) f.ensures.fact in
-          subst (P l.u) (sym z.3)
-          (found_alike r l.u f.result z.0.taken there same _
-          (subst (P f.result) (get_d_any l.users f.result nothing _ (omega (arith, z.0.taken, l.invariant.3.long))) (l.invariant.3.each f.result z.0.taken))))
-          (λ z. subst (P l.u) (sym z.7) z.3.ensures.0)
-          c.if-w-u.branch),
+          (elim c.if-w-u.branch [
+            | then-w-u w ↦
+              let (there, same) = ⊎_elim (λ (e : f.result ≡ l.u). absurd (omega (arith, w.if-w-u.true))) (λ x. x) f.ensures.fact in
+              subst (P l.u) (sym w.q-is)
+              (found_alike r l.u f.result w.if-w-u.true there same _
+              (subst (P f.result) (get_or_any l.users f.result nothing _ (omega (arith, w.if-w-u.true, l.invariant.3.long))) (l.invariant.3.each f.result w.if-w-u.true)))
+            | else-w-u w ↦ subst (P l.u) (sym w.q-is) w.search_user-q.ensures.value
+          ]),
     )
 
 pub returns : goal.returns

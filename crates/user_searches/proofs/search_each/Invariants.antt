@@ -16,7 +16,7 @@ use Rattle.allowed_rows.specs.Basis.{rules_by, model_by}
 use Rattle.search.specs.Queue.{nothing}
 use Rattle.search.specs.Sessions.{sessions_found}
 use Rattle.search.specs.declared.queue.Found.{Found}
-use Rattle.session_rows.proofs.Laws.{get_d_any}
+use Rattle.session_rows.proofs.Laws.{get_or_any}
 use Rattle.user_searches.specs.Opened.{opens_in}
 use Rattle.user_searches.proofs.Laws.{Filled, filled_none, filled_more, found_alike}
 use borrow.Author.Rules.{rules}

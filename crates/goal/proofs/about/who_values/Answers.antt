@@ -5,7 +5,7 @@ use lib.ListN.{length}
 use Rattle.lanes.specs.Lanes.{lane_of}
 use Rattle.search.specs.Queue.{nothing}
 use Rattle.search.specs.declared.queue.Found.{Found}
-use Rattle.session_rows.proofs.Laws.{get_d_any}
+use Rattle.session_rows.proofs.Laws.{get_or_any}
 use Rattle.goal.proofs.Questions.{who-session, who-user, who-no-user, who-any}
 use Rattle.lanes.proofs.Laws.{lanes-as, lanes-own}
 use borrow.Author.Rules.{rules}
@@ -22,7 +22,7 @@ returns-then-q-lt16 c =
     let n : length a.users ≡ 16 = search rules in
     lanes-as _ _ c.seen_of-then-q-lt16.result c.seen_of-then-q-lt16.ensures
     (λ v h.
-    ap (λ (q : Found). lane_of q.seen v) (get_d_any a.users a.q.who _ nothing (omega arith))
+    ap (λ (q : Found). lane_of q.seen v) (get_or_any a.users a.q.who _ nothing (omega arith))
     ∙ who-user a.users (lane_of a.helpers) a.own a.q v c.if-q-eq-SESSION.false c.if-q-eq-USER.true c.if-q-lt16.true)
 
 pub returns-then-q-eq-USER : goal.returns-then-q-eq-USER

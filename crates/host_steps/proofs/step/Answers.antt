@@ -22,4 +22,4 @@ returns-in-Accepted c =
     let q = c.read_rules-p in
     let a = c.args in
     let s = lent_as a.sessions.now a.items.now record { session = a.session.now; item = a.item.now } in
-    let x = leaves c.step_at-s.result.outcome c.step_at-s.result.next c.step_at-s.last.1.0 c.step_at-s.last.1.1.0 in let both = step-told (reading a.file.now) (policy_of q.result.rules) (accepted) s a.row x c.step_at-s.ensures _ c.number_of.ensures in record { value = both.0; item_after = both.1 }
+    let x = leaves c.step_at-s.result.outcome c.step_at-s.result.next c.step_at-s.new.sessions c.step_at-s.new.items in let both = step-told (reading a.file.now) (policy_of q.result.rules) (accepted) s a.row x c.step_at-s.ensures _ c.number_of.ensures in record { value = both.0; item_after = both.1 }

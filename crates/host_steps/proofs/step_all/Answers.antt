@@ -23,4 +23,4 @@ returns-in-Accepted c =
     let q = c.read_rules-p in
     let a = c.args in
     let s = lent_as a.sessions.now a.items.now record { session = a.session.now; item = a.item.now } in
-    let x : Ran = record { refusal = refusal_of c.steps_at-ran.result.outcome; lent = lent_as c.steps_at-ran.last.1.0 c.steps_at-ran.last.1.1.0 c.steps_at-ran.result.next; count = c.steps_at-ran.result.count } in let both = steps-told (reading a.file.now) (policy_of q.result.rules) (accepted) s a.rows.now x c.steps_at-ran.ensures _ c.number_of.ensures in record { value = both.0; item_after = both.1.0; done_after = both.1.1 }
+    let x : Ran = record { refusal = refusal_of c.steps_at-ran.result.outcome; lent = lent_as c.steps_at-ran.new.sessions c.steps_at-ran.new.items c.steps_at-ran.result.next; count = c.steps_at-ran.result.count } in let both = steps-told (reading a.file.now) (policy_of q.result.rules) (accepted) s a.rows.now x c.steps_at-ran.ensures _ c.number_of.ensures in record { value = both.0; item_after = both.1.0; done_after = both.1.1 }

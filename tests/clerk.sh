@@ -4,5 +4,5 @@ set -eu -o pipefail
 cd "$(dirname "$0")/.."
 . tests/library.bash
 need python3 python3
-rt check rights >"$work/log" 2>&1 || { cat "$work/log"; exit 1; }
+find_program rights
 python3 tests/shown.py README.md docs/CLERK.md

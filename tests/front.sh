@@ -6,9 +6,7 @@ cd "$(dirname "$0")/.."
 . tests/library.bash
 need python3 python3
 need script bsdutils
-if older target/bin/rights_wide crates crates.txt; then
-    rt check rights_wide >"$work/log" 2>&1 || { cat "$work/log"; exit 1; }
-fi
+find_program rights_wide
 bin/rules version >/dev/null
 rustc --edition 2021 tests/second/main.rs -o "$work/second" &
 second=$!
@@ -31,7 +29,7 @@ check messages
 check objects
 check places
 check explained
-check verdicts target/bin/rights_wide
+check verdicts "$program"
 check same "$work/second"
 # the front that is linked with changed.c is not optimised: there a number that overflows ends the program
 RULES_PROGRAM=$work/changed check junk

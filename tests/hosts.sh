@@ -5,7 +5,7 @@ set -eu -o pipefail
 cd "$(dirname "$0")/.."
 . tests/library.bash
 compile examples/host.c "$work/host_c"
-rustc --edition 2021 -O -D warnings -L target/staticlib examples/host.rs -o "$work/host_rs"
+rustc --edition 2021 -O -D warnings -L "$(dirname "$archive")" examples/host.rs -o "$work/host_rs"
 for host in host_c host_rs; do
     "$work/$host" examples/counter.rules >"$work/$host.out"
     grep -v '^ ' "$work/$host.out" | diff - examples/host.out

@@ -8,7 +8,7 @@ ANALYSER = ["replay", "search", "session_search", "item_starts", "item_changes",
             "goal", "decision", "analyser"]
 MONITOR = ["formulas", "allowed", "bitsets", "dependence", "planes", "sides", "leaves", "alike", "prepared", "tables", "preparing", "allowed_rows", "cells", "live",
            "steps", "starting", "judge", "monitor"]
-USE = rf"^\s*(?:pub )?use Rattle·({'|'.join(MONITOR)})\.specs\.(\S+?)"
+USE = rf"^\s*(?:pub )?use Rattle\.({'|'.join(MONITOR)})\.specs\.(\S+?)"
 UNFOLDING = r"^( *)unfolding((?: +\S+)+(?:\n\1 +\S+(?: +\S+)*)*)$"
 
 

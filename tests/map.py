@@ -19,7 +19,8 @@ def read(path):
 
 
 def files(top, *ends):
-    for folder, _, names in os.walk(top):
+    for folder, below, names in os.walk(top):
+        below[:] = [name for name in below if name != "out"]
         for name in sorted(names):
             if name.endswith(ends):
                 yield os.path.join(folder, name)

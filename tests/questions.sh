@@ -3,5 +3,5 @@
 set -eu -o pipefail
 cd "$(dirname "$0")/.."
 . tests/library.bash
-rustc --edition 2021 -O tests/questions/main.rs -L target/staticlib -l static=rights_c -o "$work/questions"
+rustc --edition 2021 -O tests/questions/main.rs -L "$(dirname "$archive")" -l static=rights_c -o "$work/questions"
 "$work/questions"

@@ -10,9 +10,9 @@ LEAST = 7
 LIST = "tests/repeats.txt"
 WORDS = set("fn pub if else while for in return match let mut loop rw simp omega search cc elim where record data unfolding unfoldable abbrev".split())
 PASSED_OVER = re.compile(
-    r"^\s*(use |pub use |ghost use |mod |pub mod |pub const |--|//|(pub )?\w+: [\w&'\[\]; ]+,?$"  # imports, comments, constants, fields and parameters
-    r"|tie\.|\(tie\.|abbrev Inv|abbrev μ|\S+ : tie\.|\S+-spec|returns\S* c = search needs|\S+ c( κs)? = (search needs|omega arith)$"
-    r"|[a-z0-9-]+\)?$|[{}()\[\];,]*$)"
+    r"^\s*(use |pub use |ghost use |mod |pub mod |pub const |--|//|#!?\[|(pub )?\w+: [\w&'\[\]; ]+,?$"  # imports, comments, attributes, constants, fields and parameters
+    r"|tie\.|\(tie\.|\S+ : tie\.|\S+-spec|(abbrev )?(pub )?\S+ : goal\.|returns\S* c = search rules|\S+ c = (search rules|omega arith)$|let \w+ = c\.[\w-]+ in$|search rules,?$"
+    r"|[a-z0-9_-]+\)?$|[{}()\[\];,]*$)"
 )
 
 
@@ -27,7 +27,8 @@ def shapes(path):
 
 
 def sources():
-    for folder, _, names in sorted(os.walk("crates")):
+    for folder, below, names in os.walk("crates"):
+        below[:] = sorted(name for name in below if name != "out")
         for name in sorted(names):
             if name.endswith((".rt", ".antt")):
                 yield os.path.join(folder, name)

@@ -11,7 +11,9 @@ for file in stdin stdout; do
         exit 1
     fi
 done
-rt check rules_case >"$work/log" 2>&1 || { cat "$work/log"; exit 1; }
+root=$PWD
+. bin/build.bash
+find_program rules_case
 python3 tests/rules_case/records.py "$work" 300
-target/bin/rules_case <"$work/stdin" | cmp - "$work/stdout"
+"$program" <"$work/stdin" | cmp - "$work/stdout"
 echo "$(wc -l <"$work/stdout") records"

@@ -1,10 +1,12 @@
 """The Rattle sources of some crates, as far as a test needs them: the functions of each file as tokens, without comments and contracts, their parameters,
-`let`s and loops, and the fields of the types. A file that has anything else than functions, types, `use` and `mod` lines and `impl BitReader` is wrong."""
+`let`s and loops, and the fields of the types. A file that has anything else than functions, types, `use` and `mod` lines and `impl BitReader` is wrong; of
+attributes it may have those that ask for tactics, and `derive` of `Clone` and `Copy`."""
 import os
 import re
 
 TOKEN = re.compile(r"'\w+|\w+|::|=>|->|<<=|>>=|[=!<>+\-*/%&|^]=|&&|\|\||\.\.=?|<<|>>|\S")
-ITEM = re.compile(r"(?P<ghost>ghost use [^;]*;)|(?P<use>use [\w:]+;)|(?P<mod>(?:pub )?mod \w+;)|(?P<impl>impl<'\w+> BitReader<'\w+> \{)"
+ATTRIBUTE = re.compile(r"^ *#!?\[(?:tactic\(auto[^\n\]]*\)|derive\(Clone, Copy\))\]$", re.M)
+ITEM = re.compile(r"(?P<ghost>ghost use [^;]*;)|(?P<use>use [\w:]+(?:::\{[\w, \n]+\})?;)|(?P<mod>(?:pub )?mod \w+;)|(?P<impl>impl<'\w+> BitReader<'\w+> \{)"
                   r"|(?P<type>(?:pub )?(?:struct|enum) \w+(?:<'\w+>)? \{)|(?P<fn>(?:pub(?:\(super\))? )?fn \w+(?:<'\w+>)?\()")
 
 
@@ -76,7 +78,7 @@ class Source:
 
     def __init__(self, path, text):
         self.path, self.uses, self.types, self.functions, self.wrong = path, {}, {}, [], []
-        text = re.sub(r"//[^\n]*", "", text)
+        text = ATTRIBUTE.sub("", re.sub(r"//[^\n]*", "", text))
         if re.search(r"\"|/\*|'\\?.'|#", text):
             self.wrong.append(f"{path} has a text, an attribute or a long comment")
         at, owner, ends = 0, "", -1
@@ -91,7 +93,10 @@ class Source:
                 return
             words, at = re.findall(r"\w+", m.group()), m.end()
             if m.lastgroup == "use":
-                self.uses[words[-1]] = words[1:]
+                whole, _, group = m.group().partition("{")
+                words = re.findall(r"\w+", whole)[1:]
+                for name in re.findall(r"\w+", group) or [words.pop()]:
+                    self.uses[name] = words + [name]
             elif m.lastgroup == "impl":
                 owner, ends = "BitReader", closing(text, at - 1)
             elif m.lastgroup == "type":
@@ -104,9 +109,9 @@ class Source:
     def function(self, text, owner, name, at):
         """keeps a function whose parameters begin at a place, without its contract, and says where it ends"""
         end = closing(text, at - 1)
-        head = re.compile(r"\s*(?:-> ([^{]*?))?\s*(?=\b(?:requires|ensures) \{|\{)").match(text, end + 1)
+        head = re.compile(r"\s*(?:-> ([^{]*?))?\s*(?=\b(?:requires|ensures)(?: \w+)? \{|\{)").match(text, end + 1)
         start = head.end()
-        while clause := re.compile(r"\s*(?:requires|ensures) \{").match(text, start):
+        while clause := re.compile(r"\s*(?:requires|ensures)(?: \w+)? \{").match(text, start):
             start = closing(text, clause.end() - 1) + 1
         start = text.index("{", start)
         result = re.sub(r"<'\w+>|'\w+ ", "", head.group(1) or "")

@@ -1,5 +1,6 @@
-"""Runs the stored inputs of tests/vectors/runs.txt: at once, and in pieces of seven bytes where there are few. Then the leaks of bench/inputs, of which
-any that replays will do: as many rows follow as the first line says, each four numbers, the last an access. The exit status is 1 where anything differs."""
+"""main.py PROGRAM WIDE: runs the stored inputs of tests/vectors/runs.txt: at once, and in pieces of seven bytes where there are few. Then the leaks of
+bench/inputs, of which any that replays will do: as many rows follow as the first line says, each four numbers, the last an access. The exit status is 1
+where anything differs."""
 import glob
 import re
 import subprocess
@@ -41,7 +42,7 @@ with open("tests/vectors/runs.txt", encoding="utf-8") as table:
         if not case:
             sys.exit(f"tests/vectors/runs.txt:{number}: no run")
         wide, text, expected = case.groups()
-        program = "target/bin/rights_wide" if wide else "target/bin/rights"
+        program = sys.argv[2] if wide else sys.argv[1]
         data = input_of(text)
         inputs += 1
         ways = [[data]]
@@ -56,7 +57,7 @@ with open("tests/vectors/runs.txt", encoding="utf-8") as table:
 leaks = sorted(glob.glob("bench/inputs/*.leak.in"))
 for path in leaks:
     with open(path, "rb") as file:
-        found = printed("target/bin/rights_wide", [file.read()])
+        found = printed(sys.argv[2], [file.read()])
     form = re.fullmatch(r"LEAK (\d+) \d+ \d+\n((?:[1-5] \d+ \d+ \d+\n)*6 \d+ \d+ \d+\n)", found)
     if not form or form[2].count("\n") != int(form[1]):
         wrong += 1

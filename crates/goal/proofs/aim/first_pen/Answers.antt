@@ -8,6 +8,7 @@ use lib.ListN.{set}
 use Rattle.goal.proofs.Pens.{Standing, standing-none, standing-stays, standing-more, pen-ready}
 use borrow.Author.Rules.{rules}
 use Rattle.goal.proofs.aim.first_pen.Goals as goal
+use Rattle.goal.proofs.aim.first_pen.Goals.{then-keeps, else-keeps}
 
 pub loop-k-init : goal.loop-k-init
 loop-k-init c = (search rules, search rules, search rules, standing-none c.args.starting.users c.args.starting.values)
@@ -23,15 +24,15 @@ loop-k-preserved c =
       search rules,
       search rules,
       search rules,
-      ⊎_elim
-          (λ z.
-          subst (λ (x : List ℕ). Standing us vs x c.if-keeps.owner (l.k + 1)) (sym z.1)
-          (subst (λ (x : List ℕ). Standing us vs (set l.number v.result (l.k + 1)) x (l.k + 1)) (sym z.2)
-          (standing-more us vs l.number l.owner l.k l.invariant.3 u.result v.result (omega arith) u.ensures v.ensures)))
-          (λ z.
-          subst (λ (x : List ℕ). Standing us vs x c.if-keeps.owner (l.k + 1)) (sym z.1)
-          (subst (λ (x : List ℕ). Standing us vs l.number x (l.k + 1)) (sym z.2) (standing-stays us vs l.number l.owner l.k l.invariant.3)))
-          c.if-keeps.branch,
+      elim c.if-keeps.branch [
+        | then-keeps w ↦
+          subst (λ (x : List ℕ). Standing us vs x c.if-keeps.owner (l.k + 1)) (sym w.number-is)
+          (subst (λ (x : List ℕ). Standing us vs (set l.number v.result (l.k + 1)) x (l.k + 1)) (sym w.owner-is)
+          (standing-more us vs l.number l.owner l.k l.invariant.3 u.result v.result (omega arith) u.ensures v.ensures))
+        | else-keeps w ↦
+          subst (λ (x : List ℕ). Standing us vs x c.if-keeps.owner (l.k + 1)) (sym w.number-is)
+          (subst (λ (x : List ℕ). Standing us vs l.number x (l.k + 1)) (sym w.owner-is) (standing-stays us vs l.number l.owner l.k l.invariant.3))
+      ],
     )
 
 pub returns : goal.returns

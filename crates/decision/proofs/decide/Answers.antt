@@ -36,21 +36,21 @@ pub returns-then-hit-ge256 : goal.returns-then-hit-ge256
 returns-then-hit-ge256 c =
     let a = c.args in
     decided-safe a.rules _ a.q _ (basis-model a.rules a.basis c.requires.basis_of) c.helpers-helpers.result c.item_values-items.result c.session_values-own.result c.who_values-who.result
-    c.first_hit-hit.result c.helpers-helpers.ensures c.item_values-items.ensures c.session_values-own.ensures c.who_values-who.ensures c.first_hit-hit.ensures
+    c.first_hit-hit.result c.helpers-helpers.ensures c.item_values-items.ensures c.session_values-own.ensures c.who_values-who.ensures (c.first_hit-hit.ensures.place_value, c.first_hit-hit.ensures.value_value)
     _ _ c.count_pairs-pairs.ensures refl refl refl (omega (arith, c.if-hit-ge256.true))
 
 pub write_rows-end-requires : goal.write_rows-end-requires
 write_rows-end-requires c =
     let few-items : c.args.rules.items.count < 256 =
-    c.well_formed.0.1.1.1.1.1.0.1.1.0.1 in
+    search rules in
     let byte-item : c.args.q.item < 256 =
     search rules in
     let byte-values : (k : ℕ) → get_or c.args.rules.items.values k 0 < 256 =
-    λ k. let f : Fits w8 (get_or c.args.rules.items.values k 0) = elem_fits_field w8 w8 c.args.rules.items.values _ k c.well_formed.0.1.1.1.1.1.0.1.1.1.0.1.1 tt in
+    λ k. let f : Fits w8 (get_or c.args.rules.items.values k 0) = search rules in
     omega arith in
     let a = c.args in
     place-shallow a.rules _ a.q _ (basis-model a.rules a.basis c.requires.basis_of) c.helpers-helpers.result c.item_values-items.result c.session_values-own.result c.who_values-who.result
-    c.first_hit-hit.result c.helpers-helpers.ensures c.item_values-items.ensures c.session_values-own.ensures c.who_values-who.ensures c.first_hit-hit.ensures
+    c.first_hit-hit.result c.helpers-helpers.ensures c.item_values-items.ensures c.session_values-own.ensures c.who_values-who.ensures (c.first_hit-hit.ensures.place_value, c.first_hit-hit.ensures.value_value)
     (byte-item) (few-items) (byte-values) (omega (arith, c.if-hit-ge256.false))
 
 pub shape_of-area : goal.shape_of-area
@@ -63,5 +63,5 @@ pub returns : goal.returns
 returns c =
     let a = c.args in
     decided-leak a.rules _ a.q _ (basis-model a.rules a.basis c.requires.basis_of) c.helpers-helpers.result c.item_values-items.result c.session_values-own.result c.who_values-who.result
-    c.first_hit-hit.result c.helpers-helpers.ensures c.item_values-items.ensures c.session_values-own.ensures c.who_values-who.ensures c.first_hit-hit.ensures
+    c.first_hit-hit.result c.helpers-helpers.ensures c.item_values-items.ensures c.session_values-own.ensures c.who_values-who.ensures (c.first_hit-hit.ensures.place_value, c.first_hit-hit.ensures.value_value)
     _ _ c.count_pairs-pairs.ensures refl (omega (arith, c.if-hit-ge256.false)) refl _ c.write_rows-end.ensures

@@ -1,0 +1,10 @@
+-- `case_rules::all` meets its contract: each record goes on by at least a byte, so there are at most as many as bytes.
+use borrow.Author.Rules.{rules}
+use Prim.Native.Nat.{◌≤◌, ◌<◌, ◌-◌}
+use Rattle.case_rules.proofs.all.Given as goal
+
+abbrev pub invariant-loop-at : goal.invariant-loop-at
+invariant-loop-at l = (k ≤ l.k) × (l.k < 700000)
+
+abbrev pub decreases-loop-at : goal.decreases-loop-at
+decreases-loop-at l = 700000 - l.k

@@ -4,7 +4,7 @@ use Prim.Native.Nat.{◌≤◌, ◌<◌, ◌-◌}
 use Rattle.case_rules.proofs.all.Given as goal
 
 abbrev pub invariant-loop-at : goal.invariant-loop-at
-invariant-loop-at l = (k ≤ l.k) × (l.k < 700000)
+invariant-loop-at g l = (l.k ≤ l.at) × (l.at < 700000)
 
 abbrev pub decreases-loop-at : goal.decreases-loop-at
-decreases-loop-at l = 700000 - l.k
+decreases-loop-at g l = 700000 - l.at

@@ -6,7 +6,4 @@ use Prim.Native.Nat.{◌+◌, ◌*◌, ◌≤◌, ◌<◌, ◌-◌}
 use Rattle.case_rules.proofs.changed_case.Given as goal
 
 abbrev pub invariant-loop-k : goal.invariant-loop-k
-invariant-loop-k l = (l.i ≤ l.room) × (l.room < 256) × (l.rules ≡ l.s + 3 + 7 * l.i)
-
-abbrev pub decreases-loop-k : goal.decreases-loop-k
-decreases-loop-k l = l.room - l.i
+invariant-loop-k g l = (l.n < 256) × (l.i ≡ l.at + 3 + 7 * l.k)

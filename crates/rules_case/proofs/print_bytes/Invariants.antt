@@ -6,7 +6,7 @@ use borrow.Author.Rules.{rules}
 use Rattle.rules_case.proofs.print_bytes.Given as goal
 
 abbrev pub invariant-loop-i : goal.invariant-loop-i
-invariant-loop-i l = (l.line ≤ l.out) × (l.out ≤ 4096) × (length l.initial.i ≡ 8193)
+invariant-loop-i g l = (l.i ≤ l.n) × (l.n ≤ 4096) × (length l.line ≡ 8193)
 
 abbrev pub decreases-loop-i : goal.decreases-loop-i
-decreases-loop-i l = l.out - l.line
+decreases-loop-i g l = l.n - l.i

@@ -39,7 +39,7 @@ use Rattle.replay.proofs.Theorems.{question-is-asked, replay-is-the-run}
 use Rattle.search.specs.declared.queue.Found.{Found}
 use Rattle.analyser.specs.Told.{no_verdict, safe_verdict, leak_verdict, Told, told_of, refused}
 use Rattle.analyser.specs.Answer.{session_values, item_values, rows_needed, starts_brought, decided, told}
-use Rattle.user_results.specs.Found.{UsersFound, any_has}
+use Rattle.user_results.specs.Found.{UsersFound}
 use Rattle.decision.specs.Decide.{item_search, leak_place, LeakLeft, DecidedBy}
 use Rattle.decision.specs.declared.Decision.{Decision}
 use Rattle.analyser.specs.Checks.{rows_for, starts_found, answer_by}
@@ -47,7 +47,6 @@ use Rattle.analyser.specs.Never.{Never}
 use Rattle.analyser.specs.Means.{Means}
 use Rattle.analyser.specs.declared.Answer.{Answer}
 use Rattle.analyser.specs.declared.Verdict.{Verdict}
-use Rattle.analyser.specs.declared.Verdict.TheVariants as Verdict
 use Rattle.analyser.proofs.Widths.{sessions-few, items-few, rows-bounded, rows_for-is}
 use Rattle.user_results.proofs.UsersReach.{pairs-agree}
 use Rattle.analyser.proofs.ItemsReach.{values_agree}

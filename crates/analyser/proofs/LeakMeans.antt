@@ -24,7 +24,7 @@ use Rattle.search.specs.declared.queue.Found.{Found}
 use Rattle.session_rows.specs.Writing.{writing_of}
 use Rattle.leak.proofs.Theorems.{leak-is-written}
 use Rattle.analyser.specs.Answer.{session_values, item_values, rows_needed, starts_brought}
-use Rattle.user_results.specs.Found.{UsersFound, any_has, all_found}
+use Rattle.user_results.specs.Found.{UsersFound, all_found}
 use Rattle.goal.specs.Asked.{aim_of}
 use Rattle.decision.specs.Decide.{item_search, own_search, leak_place, leak_value, LeakLeft}
 use Rattle.analyser.specs.Checks.{starts_found}

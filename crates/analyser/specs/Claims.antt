@@ -1,7 +1,7 @@
 -- What is proved of every answer that meets the promise of `analyse`, by relations written from the paper's sentences. The proofs are in
 -- proofs/Theorems.antt.
 -- Assumes nothing.
-use Rattle.std.specs.Prelude.{◌≡◌, ◌⊎◌, ◌↔◌, List, ℕ, ◌≤◌, length, take}
+use Rattle.std.specs.Prelude.{◌≡◌, ◌⊎◌, ◌↔◌, List, ℕ, length, take}
 use Rattle.format.specs.File.{bytes}
 use Rattle.policy.specs.Policy.{Policy}
 use Rattle.rules.specs.Answers.{reading, refusal, rules, writing}

@@ -2,7 +2,6 @@
 -- Assumes nothing.
 use Rattle.std.specs.Prelude.{ℕ}
 use Rattle.analyser.specs.declared.Verdict.{Verdict}
-use Rattle.analyser.specs.declared.Verdict.TheVariants as Verdict
 
 -- verdicts as values: none, where a number is given; safe; leak
 abbrev pub no_verdict : ℕ

@@ -6,7 +6,6 @@ use Rattle.analyser.specs.Told.{Told, told_of}
 use Rattle.analyser.specs.Means.{Means}
 use Rattle.analyser.specs.declared.Answer.{Answer as Analysis}
 use Rattle.analyser.specs.declared.Verdict.{Verdict}
-use Rattle.analyser.specs.declared.Verdict.TheVariants as Verdict
 
 module _ (file question before after : List ℕ) (x : Analysis) (m : Means file question before after (told_of x.verdict x.pairs x.values) x.rows) where
   -- a number and a verdict's value, with what the answer holds

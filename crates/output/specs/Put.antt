@@ -1,6 +1,6 @@
 -- Text that is put into lent bytes, as much of it as fits.
 -- Assumes nothing.
-use Rattle.std.specs.Prelude.{List, ◌++◌, ℕ, ◌+◌, ◌-◌, min, length, take, drop}
+use Rattle.std.specs.Prelude.{List, ◌++◌, ℕ, ◌-◌, min, length, take, drop}
 use Rattle.std.proofs.Math.Seq.{paste}
 
 -- the bytes `out` with a text at the front: its first bytes, as many as fit, and then the rest of `out` as it was

@@ -2,7 +2,6 @@
 use native.Mathlib.Omega.{arith}
 use Rattle.bits.proofs.Laws.{ones}
 use lib.Pow.{pow_mono}
-use borrow.Author.Rules.{rules}
 use Rattle.analyser.proofs.room.Goals as goal
 
 pub returns : goal.returns

@@ -7,7 +7,6 @@ use native.Mathlib.Nat.{mul-le-mul}
 use Rattle.policy.specs.Policy.{width}
 use Rattle.policy.specs.Rules.{attrs_of}
 use Rattle.analyser.specs.Checks.{rows_for}
-use borrow.Author.Rules.{rules}
 use Rattle.analyser.proofs.rows_needed.Goals as goal
 
 pub returns-then-s-gt-WIDTH : goal.returns-then-s-gt-WIDTH

@@ -1,7 +1,6 @@
 -- `analyser::widest` meets its contract.
 use Prim.Native.Nat.{◌≤◌}
 use native.Mathlib.Omega.{arith}
-use borrow.Author.Rules.{rules}
 use Rattle.analyser.proofs.widest.Goals as goal
 use Rattle.analyser.proofs.widest.Goals.{then-u-s, else-u-s}
 

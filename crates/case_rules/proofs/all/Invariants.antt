@@ -1,5 +1,4 @@
 -- `case_rules::all` meets its contract: each record goes on by at least a byte, so there are at most as many as bytes.
-use borrow.Author.Rules.{rules}
 use Prim.Native.Nat.{◌≤◌, ◌<◌, ◌-◌}
 use Rattle.case_rules.proofs.all.Given as goal
 

@@ -1,5 +1,4 @@
 -- `case_rules::byte` meets its contract: an element of a byte slice is below 256.
-use borrow.Author.Rules.{rules}
 use native.Mathlib.Omega.{arith}
 use Rattle.case_rules.proofs.byte.Goals as goal
 

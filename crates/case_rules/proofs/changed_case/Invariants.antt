@@ -1,8 +1,6 @@
 -- `case_rules::changed_case` meets its contract: each change takes 7 bytes, and the changes left fall.
-use borrow.Author.Rules.{rules}
-use native.Mathlib.Omega.{arith}
 use mathlib.Core.Path.{◌≡◌}
-use Prim.Native.Nat.{◌+◌, ◌*◌, ◌≤◌, ◌<◌, ◌-◌}
+use Prim.Native.Nat.{◌+◌, ◌*◌, ◌<◌}
 use Rattle.case_rules.proofs.changed_case.Given as goal
 
 abbrev pub invariant-loop-k : goal.invariant-loop-k

@@ -1,5 +1,4 @@
 -- `case_rules::holds` meets its contract: it goes over the indexes of `out`, and what is left of them falls.
-use borrow.Author.Rules.{rules}
 use Prim.Native.Nat.{◌≤◌, ◌-◌}
 use Rattle.case_rules.proofs.holds.Given as goal
 

@@ -1,7 +1,5 @@
 -- `case_steps::main` stops: the rows are taken one after another.
 use mathlib.Core.Path.{◌≡◌}
-use Prim.Native.Nat.{◌-◌, ◌≤◌}
-use borrow.Author.Rules.{rules}
 use lib.ListN.{length}
 use Rattle.case_steps.proofs.main.Given as goal
 

@@ -8,7 +8,7 @@ use lib.ListN.{get_or}
 use Rattle.allowed_rows.proofs.BasisLaws.{basis-model, basis-lists}
 use Rattle.allowed_rows.proofs.ScratchLaws.{scratch-kept}
 use Rattle.decision.proofs.Decided.{place-shallow, decided-safe, decided-leak}
-use borrow.Author.Rules.{rules, elem_fits_field}
+use borrow.Author.Rules.{rules}
 use Rattle.decision.proofs.decide.Goals as goal
 
 pub item_values-items-requires : goal.item_values-items-requires

@@ -1,6 +1,5 @@
 -- `host_answers::answer` meets its contract: it tells what `analyser::analyse` answers.
 use Rattle.host_answers.proofs.Laws.{tells-number, tells-safe, tells-leak}
-use borrow.Author.Rules.{rules}
 use Rattle.host_answers.proofs.answer.Goals as goal
 
 pub returns-in-Refused : goal.returns-in-Refused

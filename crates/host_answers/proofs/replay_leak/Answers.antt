@@ -1,7 +1,6 @@
 -- `host_answers::replay_leak` meets its contract: the number of what `replay::replay` answers, and the cells as it leaves them.
 use mathlib.Core.Path.{ap, ◌∙◌}
 use Rattle.live.specs.Lent.{host_number}
-use borrow.Author.Rules.{rules}
 use Rattle.host_answers.proofs.replay_leak.Goals as goal
 
 pub returns : goal.returns

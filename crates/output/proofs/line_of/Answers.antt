@@ -7,7 +7,6 @@ use Rattle.analyser.specs.Told.{told_of}
 use Rattle.output.specs.Lines.{row_line, line_at}
 use Rattle.output.specs.Put.{over}
 use Rattle.output.proofs.Laws.{line_at-row}
-use borrow.Author.Rules.{rules}
 use Rattle.output.proofs.line_of.Goals as goal
 
 pub returns-then-i-eq0 : goal.returns-then-i-eq0

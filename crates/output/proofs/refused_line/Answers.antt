@@ -4,7 +4,6 @@ use mathlib.Core.List.{List, [], ◌∷◌, ◌++◌, append_assoc}
 use Prim.Native.Nat.{ℕ}
 use Rattle.output.specs.Lines.{numeral, line, refused_word}
 use Rattle.output.proofs.Laws.{holds-none, put-more, put_all}
-use borrow.Author.Rules.{rules}
 use Rattle.output.proofs.refused_line.Goals as goal
 
 pub returns : goal.returns

@@ -1,7 +1,6 @@
 -- `output::row_at` meets its contract: past the end the default is 0.
 use mathlib.Core.Path.{sym}
 use lib.ListN.{get_or-eq_default}
-use borrow.Author.Rules.{rules}
 use Rattle.output.proofs.row_at.Goals as goal
 
 pub returns-else-i-rows : goal.returns-else-i-rows

@@ -1,7 +1,6 @@
 -- `output::verdict_line` meets its contract: a line for each case of the verdict.
 use Rattle.analyser.specs.Told.{told_of}
 use Rattle.output.specs.Lines.{verdict_line}
-use borrow.Author.Rules.{rules}
 use Rattle.output.proofs.verdict_line.Goals as goal
 
 pub returns-in-Refused : goal.returns-in-Refused

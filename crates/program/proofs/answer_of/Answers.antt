@@ -10,7 +10,6 @@ use Rattle.analyser.specs.Means.{Means}
 use Rattle.analyser.specs.declared.Verdict.TheVariants as Verdict
 use Rattle.program.specs.Program.{TooShort}
 use Rattle.program.proofs.Laws.{short-means, long-means}
-use borrow.Author.Rules.{rules}
 use Rattle.program.proofs.answer_of.Goals as goal
 
 pub returns-then-input-lt-BYTES : goal.returns-then-input-lt-BYTES

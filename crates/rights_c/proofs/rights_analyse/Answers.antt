@@ -1,5 +1,4 @@
 -- `rights_c::rights_analyse` meets its contract: it is what `host_answers::answer` promises.
-use borrow.Author.Rules.{rules}
 use Rattle.rights_c.proofs.rights_analyse.Goals as goal
 
 pub returns : goal.returns

@@ -1,6 +1,5 @@
 -- `goal::aim_of` meets its contract.
 use Rattle.goal.proofs.Questions.{aim-is}
-use borrow.Author.Rules.{rules}
 use Rattle.goal.proofs.about.aim_of.Goals as goal
 
 pub returns : goal.returns

@@ -4,7 +4,6 @@ use mathlib.Core.Bool.{cond}
 use borrow.Author.Tests.{eq-eqb, ne_eqb}
 use lib.Dec.{eqb}
 use lib.ListN.{get_or}
-use borrow.Author.Rules.{rules}
 use Rattle.goal.proofs.about.aim_owner.Goals as goal
 
 pub returns-then-q-eq-SESSION : goal.returns-then-q-eq-SESSION

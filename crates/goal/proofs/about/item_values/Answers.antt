@@ -5,7 +5,6 @@ use Rattle.lanes.specs.Lanes.{lane_of}
 use Rattle.allowed_rows.specs.Basis.{model_by}
 use Rattle.goal.proofs.Questions.{item-one, item-any}
 use Rattle.search.specs.Items.{one_found}
-use borrow.Author.Rules.{rules}
 use Rattle.goal.proofs.about.item_values.Goals as goal
 
 pub returns-then-q-eq-ITEM : goal.returns-then-q-eq-ITEM

@@ -3,7 +3,6 @@ use mathlib.Core.Path.{ap₂, ◌∙◌}
 use Rattle.allowed_rows.specs.Basis.{model_by}
 use Rattle.goal.proofs.Questions.{session-own, session-none}
 use Rattle.search.specs.Sessions.{own_found}
-use borrow.Author.Rules.{rules}
 use Rattle.goal.proofs.about.session_values.Goals as goal
 
 pub returns-then-q-eq-SESSION : goal.returns-then-q-eq-SESSION

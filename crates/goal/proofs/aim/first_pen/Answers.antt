@@ -1,8 +1,7 @@
 -- `goal::first_pen` meets its contract. The loop's invariant: of the sessions below k those that are kept stand. The measure is what is left of the count.
-use mathlib.Core.Path.{◌≡◌, refl, sym, subst}
+use mathlib.Core.Path.{refl, sym, subst}
 use mathlib.Core.List.{List}
-use mathlib.Core.Logic.{⊎_elim}
-use Prim.Native.Nat.{ℕ, ◌+◌, ◌-◌, ◌≤◌, ◌<◌}
+use Prim.Native.Nat.{ℕ, ◌+◌}
 use native.Mathlib.Omega.{arith}
 use lib.ListN.{set}
 use Rattle.goal.proofs.Pens.{Standing, standing-none, standing-stays, standing-more, pen-ready}
@@ -26,12 +25,12 @@ loop-k-preserved c =
       search rules,
       elim c.if-keeps.branch [
         | then-keeps w ↦
-          subst (λ (x : List ℕ). Standing us vs x c.if-keeps.owner (l.k + 1)) (sym w.number-is)
-          (subst (λ (x : List ℕ). Standing us vs (set l.number v.result (l.k + 1)) x (l.k + 1)) (sym w.owner-is)
-          (standing-more us vs l.number l.owner l.k l.invariant.3 u.result v.result (omega arith) u.ensures v.ensures))
+            subst (λ (x : List ℕ). Standing us vs x c.if-keeps.owner (l.k + 1)) (sym w.number-is)
+            (subst (λ (x : List ℕ). Standing us vs (set l.number v.result (l.k + 1)) x (l.k + 1)) (sym w.owner-is)
+            (standing-more us vs l.number l.owner l.k l.invariant.3 u.result v.result (omega arith) u.ensures v.ensures))
         | else-keeps w ↦
-          subst (λ (x : List ℕ). Standing us vs x c.if-keeps.owner (l.k + 1)) (sym w.number-is)
-          (subst (λ (x : List ℕ). Standing us vs l.number x (l.k + 1)) (sym w.owner-is) (standing-stays us vs l.number l.owner l.k l.invariant.3))
+            subst (λ (x : List ℕ). Standing us vs x c.if-keeps.owner (l.k + 1)) (sym w.number-is)
+            (subst (λ (x : List ℕ). Standing us vs l.number x (l.k + 1)) (sym w.owner-is) (standing-stays us vs l.number l.owner l.k l.invariant.3))
       ],
     )
 

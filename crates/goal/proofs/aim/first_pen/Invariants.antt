@@ -1,12 +1,7 @@
 -- `goal::first_pen` meets its contract. The loop's invariant: of the sessions below k those that are kept stand. The measure is what is left of the count.
-use mathlib.Core.Path.{◌≡◌, refl, sym, subst}
-use mathlib.Core.List.{List}
-use mathlib.Core.Logic.{⊎_elim}
-use Prim.Native.Nat.{ℕ, ◌+◌, ◌-◌, ◌≤◌, ◌<◌}
-use native.Mathlib.Omega.{arith}
-use lib.ListN.{set}
-use Rattle.goal.proofs.Pens.{Standing, standing-none, standing-stays, standing-more, pen-ready}
-use borrow.Author.Rules.{rules}
+use mathlib.Core.Path.{◌≡◌}
+use Prim.Native.Nat.{◌-◌, ◌≤◌, ◌<◌}
+use Rattle.goal.proofs.Pens.{Standing}
 use Rattle.goal.proofs.aim.first_pen.Given as goal
 
 abbrev pub invariant-loop-k : goal.invariant-loop-k

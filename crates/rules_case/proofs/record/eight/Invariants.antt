@@ -1,6 +1,5 @@
 -- `rules_case::record::eight` meets its contract: it goes over the indexes of the array, and what is left of them falls.
 use Prim.Native.Nat.{◌≤◌, ◌-◌}
-use borrow.Author.Rules.{rules}
 use Rattle.rules_case.proofs.record.eight.Given as goal
 
 abbrev pub invariant-loop-k : goal.invariant-loop-k

@@ -20,7 +20,6 @@ use Rattle.steps.proofs.Laws.{row_in}
 use Rattle.steps.proofs.ModelLaws.{model_in, model_in_lem}
 use Rattle.judge.specs.Judge.{written, applied_to}
 use Rattle.judge.specs.declared.Change.{Change}
-use Rattle.judge.specs.declared.Change.TheVariants as Change
 use Rattle.judge.specs.declared.Judged.{Judged}
 
 module _ (sessions items : List ℕ) (next : Next) where

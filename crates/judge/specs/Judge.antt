@@ -4,7 +4,6 @@
 use Rattle.std.specs.Prelude.{set}
 use Rattle.live.specs.Lent.{Lent, After, refusal_of}
 use Rattle.judge.specs.declared.Change.{Change}
-use Rattle.judge.specs.declared.Change.TheVariants as Change
 use Rattle.judge.specs.declared.Judged.{Judged}
 
 -- a live state with the cell written

@@ -7,7 +7,6 @@ use Rattle.runs.specs.State.{Session, closed, opened}
 use Rattle.cells.specs.Cell.{place_of}
 use Rattle.live.specs.declared.Next.{Next}
 use Rattle.live.specs.declared.Outcome.{Outcome}
-use Rattle.live.specs.declared.Outcome.TheVariants as Outcome
 
 -- the cells of sessions and of items, and the next numbers
 pub record Lent : Type 0 where

@@ -1,16 +1,11 @@
 -- Laws of comparisons of sets in lanes. In order: by the operator; operands that are the same in every word.
 use mathlib.Core.Path.{◌≡◌, refl}
-use mathlib.Core.Bool.{false, not, ◌&&◌, ◌||◌}
+use mathlib.Core.Bool.{not, ◌&&◌}
 use Prim.Native.Nat.{ℕ, ◌+◌, ◌*◌, ◌<◌}
-use native.Mathlib.Decide.{dec_lt}
-use native.Mathlib.Omega.{arith}
-use borrow.Author.Tests.{lt-ltb, le-ltb, le-leb, lt-leb, eq-eqb, ne_eqb}
-use lib.Dec.{ltb, leb, eqb}
 use Rattle.bits.specs.Set.{in_set, subset_of, proper_of}
 use Rattle.formulas.specs.Parts.{compared_by}
 use Rattle.planes.specs.Word.{number_in, compared_in}
 use Rattle.planes.specs.declared.operand.Operand.{Operand}
-use Rattle.planes.proofs.Numbers.{number-plain}
 
 module _ (op : ℕ) (x y : Operand) (v : ℕ) where
   pub compared-member : op ≡ 8 → compared_in op x y v ≡ in_set y.size (number_in y v) (number_in x v)

@@ -9,7 +9,7 @@ use native.Mathlib.Decide.{dec_le}
 use native.Mathlib.Omega.{arith}
 use borrow.Author.Tests.{le-leb, lt-leb, lt-ltb, le-ltb, eq-eqb, ne_eqb}
 use lib.Dec.{ltb, leb, eqb}
-use lib.ListN.{length, get_or, get_or-eq_default}
+use lib.ListN.{length, get_or}
 use Rattle.format.specs.Format.{within}
 use Rattle.policy.specs.Policy.{Attr, no_attr, Lists}
 use Rattle.policy.specs.Nodes.{op_of, first_of, second_of, holder_of, place_of, may_use, of_holder, named, names, atomic, node_ok, same_list, lists_agree}

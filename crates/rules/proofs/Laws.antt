@@ -2,7 +2,7 @@
 -- the bytes, what writing answers and leaves.
 use mathlib.Core.Path.{◌≡◌, refl, sym, ap, ◌∙◌, subst}
 use mathlib.Core.Logic.{◌⊎◌, inl, inr}
-use mathlib.Core.List.{List, [], ◌∷◌, ◌++◌}
+use mathlib.Core.List.{List, ◌++◌}
 use mathlib.Core.Option.{none, some}
 use Prim.Native.Nat.{ℕ, ◌*◌, ◌/◌, ◌%◌, ◌≤◌, ◌<◌}
 use native.Mathlib.Decide.{ℕ_discrete, dec_lt}
@@ -27,7 +27,6 @@ use Rattle.policy.proofs.PolicyLaw.{lawful-policy}
 use Rattle.rules.specs.Answers.{refusal, rules, answer_of, answered, reading, bits_taken, writing, written_of, filled}
 use Rattle.rules.specs.Claims.{largest_file}
 use Rattle.rules.specs.declared.Reading.{Reading}
-use Rattle.rules.specs.declared.Reading.TheVariants as Reading
 use Rattle.rules.specs.declared.Written.TheVariants as Written
 
 answered-rules : {C : Type 0} (r : Res Policy) (p : Policy) → answered r ≡ rules p → ((q : ℕ) → r ≡ ok p q → C) → C

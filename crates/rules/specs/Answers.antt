@@ -10,9 +10,7 @@ use Rattle.policy.specs.File.{policy_format}
 use Rattle.policy.specs.Rules.{no_rules}
 use Rattle.policy.specs.declared.Rules.{Rules}
 use Rattle.rules.specs.declared.Reading.{Reading}
-use Rattle.rules.specs.declared.Reading.TheVariants as Reading
 use Rattle.rules.specs.declared.Written.{Written}
-use Rattle.rules.specs.declared.Written.TheVariants as Written
 
 -- an answer to reading: a refusal's number, or what was read
 pub data Answer : Type 0 where

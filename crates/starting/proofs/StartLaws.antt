@@ -17,7 +17,6 @@ use Rattle.policy.specs.declared.Values.{Values}
 use Rattle.policy.proofs.Laws.{values-none, values-next, values_length, sessions-none, sessions-next, sessions-length}
 use Rattle.rules.specs.Answers.{Answer, refusal, rules, beside}
 use Rattle.rules.specs.declared.Reading.{Reading}
-use Rattle.rules.specs.declared.Reading.TheVariants as Reading
 use Rattle.allowed.specs.Claims.{unlisted_policy}
 use Rattle.cells.specs.Cell.{open_cell, item_cell}
 use Rattle.live.specs.Lent.{After, lent_as, leaves, refused, done, tested}

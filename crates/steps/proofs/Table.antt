@@ -16,7 +16,7 @@ use Rattle.runs.proofs.Laws.{carried-stepped}
 use Rattle.cells.specs.Row.{parts_of, step_of}
 use Rattle.cells.specs.Cell.{open_cell}
 use Rattle.cells.proofs.Laws.{item-reads}
-use Rattle.live.specs.Lent.{Lent, After, refused, done, all_given, numbers, left}
+use Rattle.live.specs.Lent.{Lent, After, done, all_given, numbers, left}
 use Rattle.live.proofs.Outcomes.{refused-not-done, done-refusal, done-lent, tested-done, tested-all, session-done, session-is, item-done, item-is}
 use Rattle.steps.specs.Step.{session_now, item_now, with_session, opening, closing, changing, making, modifying, accessing, by_kind, step_in}
 use Rattle.steps.specs.Codes.{Bytes, Codes, Room}

@@ -2,7 +2,6 @@
 use Prim.Native.Nat.{◌+◌}
 use native.Mathlib.Omega.{arith}
 use Rattle.alike.proofs.Masks.{bit_le, keeps-field}
-use borrow.Author.Rules.{rules}
 use Rattle.alike.proofs.field_mask.Goals as goal
 
 pub overflow_sub-result : goal.overflow_sub-result

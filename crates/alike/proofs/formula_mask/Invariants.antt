@@ -1,10 +1,7 @@
 -- `alike::formula_mask` meets its contract. The loop's invariant: m has the bits of the first k nodes. The measure is what is left of the count.
 use Prim.Native.Nat.{ℕ, ◌+◌, ◌*◌, ◌-◌, ◌≤◌, ◌<◌}
-use native.Mathlib.Omega.{arith}
 use lib.ListN.{get_or}
 use Rattle.alike.specs.Mask.{KeepsNode}
-use Rattle.alike.proofs.Masks.{nodes-more}
-use borrow.Author.Rules.{rules}
 use Rattle.alike.proofs.formula_mask.Given as goal
 
 abbrev pub invariant-loop-k : goal.invariant-loop-k

@@ -1,7 +1,6 @@
 -- `alike::if_new` meets its contract: by the test.
 use mathlib.Core.Path.{sym, ap, ◌∙◌}
 use mathlib.Core.Bool.{Bool, cond}
-use borrow.Author.Rules.{rules}
 use Rattle.alike.proofs.if_new.Goals as goal
 
 pub returns-then-has : goal.returns-then-has

@@ -1,7 +1,6 @@
 -- `alike::node_mask` meets its contract: no bits for a node that joins, those of both operands for a comparison.
 use Rattle.policy.specs.Nodes.{op_of, first_of, second_of}
 use Rattle.alike.proofs.Masks.{node-none, node-both}
-use borrow.Author.Rules.{rules}
 use Rattle.alike.proofs.node_mask.Goals as goal
 
 pub returns-then-node-lt5 : goal.returns-then-node-lt5

@@ -6,7 +6,6 @@ use Rattle.policy.specs.Policy.{Attr}
 use Rattle.policy.specs.Rules.{lists_of}
 use Rattle.alike.specs.Fields.{shift_in, bits_in}
 use Rattle.alike.proofs.Same.{one-by-mask}
-use borrow.Author.Rules.{rules}
 use Rattle.alike.proofs.one_of_each.Goals as goal
 
 pub returns : goal.returns

@@ -1,10 +1,8 @@
 -- `alike::one_of_each_in` meets its contract. The loop's invariant: all values but rest have been gone through, and v is its last. The measure is how many
 -- values there are up to v.
-use mathlib.Core.Path.{◌≡◌, refl}
+use mathlib.Core.Path.{refl}
 use native.Mathlib.Omega.{arith}
-use Rattle.lanes.specs.Lanes.{highest_of}
-use Rattle.alike.proofs.Asking.{up_to, Asking, asking-start, asking-more, asking-less, asking-end}
-use borrow.Author.Rules.{rules}
+use Rattle.alike.proofs.Asking.{asking-start, asking-more, asking-less, asking-end}
 use Rattle.alike.proofs.one_of_each_in.Goals as goal
 
 pub loop-v-init : goal.loop-v-init

@@ -4,7 +4,6 @@ use Prim.Native.Nat.{◌+◌}
 use Rattle.policy.specs.Rules.{policy_of}
 use Rattle.allowed.specs.Allowed.{says}
 use Rattle.allowed.proofs.ModelLaws.{model-may-access}
-use borrow.Author.Rules.{rules}
 use Rattle.allowed.proofs.may_access.Goals as goal
 
 pub returns : goal.returns

@@ -4,7 +4,6 @@ use Prim.Native.Nat.{ℕ}
 use Rattle.policy.specs.Rules.{policy_of}
 use Rattle.allowed.specs.Allowed.{says, changing}
 use Rattle.allowed.proofs.ModelLaws.{model-user-value, model-may-change}
-use borrow.Author.Rules.{rules}
 use Rattle.allowed.proofs.may_change.Goals as goal
 
 pub returns : goal.returns

@@ -3,7 +3,6 @@ use mathlib.Core.Path.{sym, ap, ◌∙◌}
 use Rattle.policy.specs.Rules.{policy_of}
 use Rattle.allowed.specs.Allowed.{says}
 use Rattle.allowed.proofs.ModelLaws.{model-may-modify}
-use borrow.Author.Rules.{rules}
 use Rattle.allowed.proofs.may_modify.Goals as goal
 
 pub returns : goal.returns

@@ -4,7 +4,6 @@ use Prim.Native.Nat.{ℕ}
 use Rattle.policy.specs.Rules.{policy_of}
 use Rattle.allowed.specs.Allowed.{says, opening}
 use Rattle.allowed.proofs.ModelLaws.{model-user-value, model-may-open}
-use borrow.Author.Rules.{rules}
 use Rattle.allowed.proofs.may_open.Goals as goal
 
 pub returns : goal.returns

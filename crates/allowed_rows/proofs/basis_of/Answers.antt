@@ -1,7 +1,6 @@
 -- `allowed_rows::basis_of` meets its contract.
 use mathlib.Core.Path.{refl}
 use Rattle.allowed.proofs.ModelLaws.{model-session-value, model-item-value}
-use borrow.Author.Rules.{rules}
 use Rattle.allowed_rows.proofs.basis_of.Goals as goal
 
 pub returns : goal.returns

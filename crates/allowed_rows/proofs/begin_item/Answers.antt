@@ -2,7 +2,6 @@
 use Rattle.policy.specs.Rules.{lists_of}
 use Rattle.prepared.proofs.Meaning.{begin-ready}
 use Rattle.allowed_rows.specs.Asked.{nodes_at}
-use borrow.Author.Rules.{rules}
 use Rattle.allowed_rows.proofs.begin_item.Goals as goal
 
 pub returns : goal.returns

@@ -3,7 +3,6 @@ use mathlib.Core.Path.{subst}
 use Prim.Native.Nat.{ℕ}
 use Rattle.policy.specs.Rules.{lists_of, nodes_of}
 use Rattle.alike.specs.Alike.{OneOfEach}
-use borrow.Author.Rules.{rules}
 use Rattle.allowed_rows.proofs.one_of_each.Goals as goal
 
 pub returns : goal.returns

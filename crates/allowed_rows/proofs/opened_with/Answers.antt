@@ -41,6 +41,10 @@ returns c =
     let e = u.ensures ∙ sym (model-user-value r a.u) in
     let h : u.result < 256 = search rules in
     let G = begin-ready l n 2 8 0 c.requires u.result g.new.area g.ensures.area_len_unchanged g.ensures.rows in
-    let R = row-ready l n 2 8 0 G 0 _ k.ensures.area_len_unchanged k.ensures.rows in record { lanes = test-holds (lane_of a.among) ((model_of (policy_of r)).may_open a.u) _ _ (lt-ltb a.u (model_of (policy_of r)).users (omega (arith, model-users r, c.if-basis-u.false)))
+    let R = row-ready l n 2 8 0 G 0 _ k.ensures.area_len_unchanged k.ensures.rows in record {
+      lanes = test-holds (lane_of a.among) ((model_of (policy_of r)).may_open a.u) _ _ (lt-ltb a.u (model_of (policy_of r)).users (omega (arith, model-users r, c.if-basis-u.false)))
           (row-lanes l n 2 8 0 a.plan u.result a.steps.now g.new.area G h 0 (search rules) ((model_of (policy_of r)).may_open a.u) a.among k.result _
-          (λ v. ap (λ (x : ℕ). holds l (holders 2 8 0 x 0 v) n) e ∙ open-says b a.nodes.now a.u v) k.ensures.lanes c.and.ensures); open_prepared = R.prepared; area_len_unchanged = k.ensures.area_len_unchanged ∙ g.ensures.area_len_unchanged }
+          (λ v. ap (λ (x : ℕ). holds l (holders 2 8 0 x 0 v) n) e ∙ open-says b a.nodes.now a.u v) k.ensures.lanes c.and.ensures);
+      open_prepared = R.prepared;
+      area_len_unchanged = k.ensures.area_len_unchanged ∙ g.ensures.area_len_unchanged;
+    }

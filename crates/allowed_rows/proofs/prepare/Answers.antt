@@ -3,7 +3,6 @@ use mathlib.Core.Path.{sym, subst}
 use Prim.Native.Nat.{ℕ, ◌≤◌}
 use Rattle.policy.specs.Rules.{lists_of, nodes_of}
 use Rattle.prepared.specs.Prepared.{Prepared}
-use borrow.Author.Rules.{rules}
 use Rattle.allowed_rows.proofs.prepare.Goals as goal
 
 pub prepare-requires : goal.prepare-requires

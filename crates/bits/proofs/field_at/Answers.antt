@@ -1,7 +1,6 @@
 -- `bits::field_at` meets its contract: a field of at most 24 bits lies within the four bytes from the one it begins in.
 use mathlib.Core.Path.{sym}
 use native.Mathlib.Omega.{arith}
-use borrow.Author.Rules.{rules}
 use lib.Pow.{pow_pos}
 use Rattle.bits.proofs.Laws.{ones, field_cut, field-value, field-short}
 use Rattle.bits.proofs.field_at.Goals as goal

@@ -1,6 +1,5 @@
 -- `bits::proper` meets its contract: it asks for the subset first, and only then for the other way round.
 use mathlib.Core.Path.{sym, ◌∙◌}
-use native.Mathlib.Omega.{arith}
 use Rattle.bits.proofs.Set.{proper-other, proper-none}
 use Rattle.bits.proofs.proper.Goals as goal
 

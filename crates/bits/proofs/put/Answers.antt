@@ -3,9 +3,9 @@
 use mathlib.Core.Path.{◌≡◌, refl, sym, ap, ◌∙◌}
 use Prim.Native.Nat.{◌+◌, ◌-◌, ◌*◌, ◌%◌, ◌^◌}
 use native.Mathlib.Omega.{arith}
-use lib.ListN.{length, set, length-set}
+use lib.ListN.{set, length-set}
 use Rattle.bits.specs.Packed.{put_to}
-use Rattle.bits.proofs.Stored.{put_to-none, put-room, put_full, kept_at, Next, next-first, next_more, next-kept, fill, rest}
+use Rattle.bits.proofs.Stored.{put_to-none, put-room, put_full, kept_at, next-first, next_more, next-kept, fill, rest}
 use Rattle.bits.proofs.put.Goals as goal
 
 pub returns-then-out-k : goal.returns-then-out-k

@@ -1,11 +1,10 @@
 -- `bits::put` meets its contract. The loop's invariant: all but the bits that are left are stored, byte i is the next with so many bits free, v is what stays of
 -- it, and the length is kept. The measure is the bits that are left.
-use mathlib.Core.Path.{◌≡◌, refl, sym, ap, ◌∙◌}
-use Prim.Native.Nat.{◌+◌, ◌-◌, ◌*◌, ◌%◌, ◌^◌}
-use native.Mathlib.Omega.{arith}
-use lib.ListN.{length, set, length-set}
+use mathlib.Core.Path.{◌≡◌}
+use Prim.Native.Nat.{◌+◌, ◌-◌}
+use lib.ListN.{length}
 use Rattle.bits.specs.Packed.{put_to}
-use Rattle.bits.proofs.Stored.{put_to-none, put-room, put_full, kept_at, Next, next-first, next_more, next-kept, fill, rest}
+use Rattle.bits.proofs.Stored.{kept_at, Next}
 use Rattle.bits.proofs.put.Given as goal
 
 abbrev pub invariant-loop-free : goal.invariant-loop-free

@@ -2,7 +2,6 @@
 use mathlib.Core.Path.{refl}
 use Rattle.lanes.specs.Lanes.{bit_of}
 use Rattle.bitsets.specs.Rows.{bit_at}
-use borrow.Author.Rules.{rules}
 use Rattle.bitsets.proofs.bit.Goals as goal
 
 pub returns : goal.returns

@@ -7,7 +7,6 @@ use Rattle.lanes.specs.Lanes.{bit_of}
 use Rattle.lanes.proofs.Words.{lanes-by}
 use Rattle.bitsets.specs.Rows.{bit_at}
 use Rattle.bitsets.proofs.Words.{bit_is}
-use borrow.Author.Rules.{rules}
 use Rattle.bitsets.proofs.load.Goals as goal
 
 pub returns : goal.returns

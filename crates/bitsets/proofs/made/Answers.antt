@@ -4,7 +4,6 @@ use Rattle.lanes.proofs.Laws.{lanes-as}
 use Rattle.bitsets.specs.Rows.{bit_at}
 use Rattle.bitsets.specs.Steps.{does_of, left_of, right_of}
 use Rattle.bitsets.proofs.Steps.{made-true, made-not, made-and, made-or, made-bit, made_table, made_none}
-use borrow.Author.Rules.{rules}
 use Rattle.bitsets.proofs.made.Goals as goal
 
 pub load-requires : goal.load-requires

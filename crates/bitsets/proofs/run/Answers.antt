@@ -1,8 +1,8 @@
 -- `bitsets::run` meets its contract: after j turns the rows are those after j steps, and the area's length is kept. The measure is the steps left.
 use mathlib.Core.Path.{◌≡◌, sym, ◌∙◌, subst}
-use Prim.Native.Nat.{ℕ, ◌+◌, ◌-◌, ◌≤◌}
+use Prim.Native.Nat.{ℕ, ◌+◌}
 use native.Mathlib.Omega.{arith}
-use lib.ListN.{length, get_or}
+use lib.ListN.{get_or}
 use Rattle.bitsets.specs.Rows.{bit_at, Rows}
 use Rattle.bitsets.specs.Steps.{row_of, Fits, ran}
 use Rattle.bitsets.proofs.Steps.{ran-start, ran-turn}

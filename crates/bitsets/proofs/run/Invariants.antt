@@ -1,12 +1,9 @@
 -- `bitsets::run` meets its contract: after j turns the rows are those after j steps, and the area's length is kept. The measure is the steps left.
-use mathlib.Core.Path.{◌≡◌, sym, ◌∙◌, subst}
-use Prim.Native.Nat.{ℕ, ◌+◌, ◌-◌, ◌≤◌}
-use native.Mathlib.Omega.{arith}
-use lib.ListN.{length, get_or}
+use mathlib.Core.Path.{◌≡◌}
+use Prim.Native.Nat.{◌-◌, ◌≤◌}
+use lib.ListN.{length}
 use Rattle.bitsets.specs.Rows.{bit_at, Rows}
-use Rattle.bitsets.specs.Steps.{row_of, Fits, ran}
-use Rattle.bitsets.proofs.Steps.{ran-start, ran-turn}
-use borrow.Author.Rules.{rules}
+use Rattle.bitsets.specs.Steps.{ran}
 use Rattle.bitsets.proofs.run.Given as goal
 
 abbrev pub invariant-loop-j : goal.invariant-loop-j

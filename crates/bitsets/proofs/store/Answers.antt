@@ -1,7 +1,6 @@
 -- `bitsets::store` meets its contract: the four words of row k are those of x, and all other words are as before.
 use native.Mathlib.Omega.{arith}
 use Rattle.bitsets.proofs.Words.{one-long, two-long, three-long, stored-long, rows-stored}
-use borrow.Author.Rules.{rules}
 use Rattle.bitsets.proofs.store.Goals as goal
 
 pub bounds-area-k-2 : goal.bounds-area-k-2

@@ -1,7 +1,6 @@
 -- `bitsets::whole` meets its contract: all lanes where the bit is set, else none.
 use mathlib.Core.Path.{sym}
 use Rattle.lanes.proofs.Laws.{lanes-as}
-use borrow.Author.Rules.{rules}
 use Rattle.bitsets.proofs.whole.Goals as goal
 
 pub returns-then-b : goal.returns-then-b

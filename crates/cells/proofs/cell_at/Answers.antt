@@ -5,7 +5,6 @@ use native.Mathlib.Omega.{arith}
 use lib.ListN.{get_or}
 use Rattle.cells.specs.Cell.{place_of}
 use Rattle.cells.proofs.Laws.{cell-past}
-use borrow.Author.Rules.{rules}
 use Rattle.cells.proofs.cell_at.Goals as goal
 
 pub returns-then-k-cells : goal.returns-then-k-cells

@@ -1,11 +1,9 @@
 -- `cells::item_at` meets its contract: each test that fails reads as nothing, in the order of the code.
 use mathlib.Core.Path.{sym, ◌∙◌}
 use Prim.Native.Nat.{◌%◌}
-use borrow.Author.Tests.{not-true, not-false}
 use Rattle.policy.specs.Rules.{attrs_of}
 use Rattle.lists.specs.Lists.{listed}
 use Rattle.cells.proofs.Laws.{item-past, item-unmarked, item-unlisted, item-marked, read_some, read_none}
-use borrow.Author.Rules.{rules}
 use Rattle.cells.proofs.item_at.Goals as goal
 
 pub returns-then-next-k : goal.returns-then-next-k

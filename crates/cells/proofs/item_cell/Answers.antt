@@ -1,7 +1,6 @@
 -- `cells::item_cell` meets its contract.
 use mathlib.Core.Path.{sym}
 use Rattle.cells.proofs.Laws.{item-is}
-use borrow.Author.Rules.{rules}
 use Rattle.cells.proofs.item_cell.Goals as goal
 
 pub returns : goal.returns

@@ -1,11 +1,9 @@
 -- `cells::session_at` meets its contract: each test that fails reads as closed, in the order of the code.
 use mathlib.Core.Path.{sym, ◌∙◌}
 use Prim.Native.Nat.{◌/◌, ◌%◌}
-use borrow.Author.Tests.{not-true, not-false}
 use Rattle.policy.specs.Rules.{attrs_of}
 use Rattle.lists.specs.Lists.{listed}
 use Rattle.cells.proofs.Laws.{session-past, session-unmarked, session-unknown, session-unlisted, session-marked, read_opened, read-closed}
-use borrow.Author.Rules.{rules}
 use Rattle.cells.proofs.session_at.Goals as goal
 
 pub returns-then-next-k : goal.returns-then-next-k

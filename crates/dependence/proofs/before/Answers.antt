@@ -4,7 +4,6 @@ use mathlib.Core.Bool.{Bool, false, ◌&&◌}
 use native.Mathlib.Omega.{arith}
 use borrow.Author.Tests.{lt-ltb, le-ltb}
 use lib.ListN.{get_or}
-use borrow.Author.Rules.{rules}
 use Rattle.dependence.proofs.before.Goals as goal
 
 pub returns-then-j-k : goal.returns-then-j-k

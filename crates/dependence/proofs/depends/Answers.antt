@@ -2,9 +2,9 @@
 -- of the count.
 use mathlib.Core.Path.{◌≡◌, ap, ◌∙◌, subst}
 use mathlib.Core.Bool.{false}
-use Prim.Native.Nat.{ℕ, ◌+◌, ◌*◌, ◌-◌, ◌≤◌}
+use Prim.Native.Nat.{ℕ, ◌+◌, ◌*◌}
 use native.Mathlib.Omega.{arith}
-use lib.ListN.{length, get_or, length-set}
+use lib.ListN.{get_or, length-set}
 use Rattle.dependence.specs.Depends.{depends_at, Depends}
 use Rattle.dependence.proofs.Depending.{depends-more}
 use borrow.Author.Rules.{rules}

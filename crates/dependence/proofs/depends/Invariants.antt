@@ -1,13 +1,9 @@
 -- `dependence::depends` meets its contract. The loop's invariant: d is right for the first k nodes and keeps its length. The measure is what is left
 -- of the count.
-use mathlib.Core.Path.{◌≡◌, ap, ◌∙◌, subst}
-use mathlib.Core.Bool.{false}
-use Prim.Native.Nat.{ℕ, ◌+◌, ◌*◌, ◌-◌, ◌≤◌}
-use native.Mathlib.Omega.{arith}
-use lib.ListN.{length, get_or, length-set}
-use Rattle.dependence.specs.Depends.{depends_at, Depends}
-use Rattle.dependence.proofs.Depending.{depends-more}
-use borrow.Author.Rules.{rules}
+use mathlib.Core.Path.{◌≡◌}
+use Prim.Native.Nat.{◌+◌, ◌*◌, ◌-◌, ◌≤◌}
+use lib.ListN.{length, get_or}
+use Rattle.dependence.specs.Depends.{Depends}
 use Rattle.dependence.proofs.depends.Given as goal
 
 abbrev pub invariant-loop-k : goal.invariant-loop-k

@@ -5,7 +5,6 @@ use native.Mathlib.Omega.{arith}
 use lib.ListN.{get_or}
 use Rattle.policy.specs.Nodes.{op_of, first_of, second_of, holder_of}
 use Rattle.dependence.proofs.Depending.{at_none, at_one, at-two, at_leaf}
-use borrow.Author.Rules.{rules}
 use Rattle.dependence.proofs.depends_at.Goals as goal
 
 pub returns-then-op-lt2 : goal.returns-then-op-lt2

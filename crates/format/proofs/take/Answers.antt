@@ -4,7 +4,6 @@ use mathlib.Core.List.{List}
 use Prim.Native.Nat.{ℕ, ◌+◌, ◌*◌, ◌≤◌, ◌<◌}
 use native.Mathlib.Decide.{dec_le}
 use native.Mathlib.Omega.{arith}
-use borrow.Author.Rules.{rules}
 use lib.ListN.{length}
 use lib.Pow.{pow_pos}
 use Rattle.bits.specs.Field.{number_at, field_at}
@@ -13,7 +12,6 @@ use Rattle.bits.specs.declared.Field.TheVariants.{Value, Absent}
 use Rattle.bits.proofs.Laws.{number_lt, field-value, field-short}
 use Rattle.format.specs.Format.{ok, bad, taken}
 use Rattle.format.specs.Reader.{found_at}
-use Rattle.format.specs.Steps.{res_of}
 use Rattle.format.specs.declared.bit_reader.Found.{Found}
 use Rattle.format.proofs.Reader.{found-field, found-on}
 use Rattle.format.proofs.Fault.{taken-value, taken-short}

@@ -1,17 +1,10 @@
 -- `formulas::holds` meets its contract. The loop's invariant: the answers of the first i nodes stand in the array, and last is the
 -- newest of them. The measure is what is left of the count.
-use mathlib.Core.Path.{◌≡◌, sym, ap, ◌∙◌}
-use Prim.Native.Nat.{◌-◌, ◌≤◌, ◌<◌}
-use native.Mathlib.Omega.{arith}
-use borrow.Author.Tests.{leb-false}
+use mathlib.Core.Path.{◌≡◌}
+use Prim.Native.Nat.{◌-◌, ◌≤◌}
 use lib.ListN.{length}
-use Rattle.policy.specs.Nodes.{op_of}
 use Rattle.policy.specs.Rules.{nodes_of, lists_of}
-use Rattle.policy.proofs.Laws.{nodes-length}
-use Rattle.formulas.specs.Meaning.{node_says}
 use Rattle.formulas.specs.Parts.{Said}
-use Rattle.formulas.proofs.Laws.{says_plain, said-start, said-next, said_all, nodes-at}
-use borrow.Author.Rules.{rules}
 use Rattle.formulas.proofs.holds.Given as goal
 
 abbrev pub invariant-loop-i : goal.invariant-loop-i

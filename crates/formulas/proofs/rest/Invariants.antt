@@ -1,20 +1,15 @@
 -- `formulas::rest` meets its contract. The loop's invariant: whatever lists and values the two tables are of, if the answers of
 -- the first nodes stood in the array where the loop began, those of the first i nodes stand in it now, and last is the newest of them.
 -- The measure is what is left of the count.
-use mathlib.Core.Path.{◌≡◌, sym, ap, ◌∙◌}
+use mathlib.Core.Path.{◌≡◌}
 use Prim.Native.Nat.{◌-◌, ◌≤◌}
-use native.Mathlib.Omega.{arith}
 use lib.ListN.{length}
 use Rattle.bits.specs.Packed.{tab}
 use Rattle.policy.specs.Policy.{Lists}
-use Rattle.policy.specs.Rules.{nodes_of, lists_of}
-use Rattle.policy.proofs.Laws.{nodes-length}
+use Rattle.policy.specs.Rules.{nodes_of}
 use Rattle.formulas.specs.Value.{operand, size_of_operand}
-use Rattle.formulas.specs.Meaning.{node_says}
 use Rattle.formulas.specs.Parts.{Said}
 use Rattle.formulas.specs.declared.Holders.{Holders}
-use Rattle.formulas.proofs.Laws.{says-over, said-next, said_all, nodes-at}
-use borrow.Author.Rules.{rules}
 use Rattle.formulas.proofs.rest.Given as goal
 
 abbrev pub invariant-loop-i : goal.invariant-loop-i

@@ -1,6 +1,5 @@
 -- `judge::apply` meets its contract: the cell that is to be written tells which slice changes; past the end nothing does.
 use Rattle.judge.proofs.Laws.{does-nothing, writes-session, session-past, writes-item, item-past}
-use borrow.Author.Rules.{rules}
 use Rattle.judge.proofs.apply.Goals as goal
 
 pub returns-in-Nothing : goal.returns-in-Nothing

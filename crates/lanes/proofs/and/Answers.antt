@@ -3,7 +3,6 @@ use mathlib.Core.Bool.{◌&&◌}
 use lib.Bits.{bit_and}
 use Rattle.lanes.proofs.Bits.{bit-and}
 use Rattle.lanes.proofs.Words.{word-op}
-use borrow.Author.Rules.{rules}
 use Rattle.lanes.proofs.and.Goals as goal
 
 pub returns : goal.returns

@@ -1,7 +1,6 @@
 -- `lanes::highest` meets its contract: the words are looked at from the last to the first, and those after the one that has the last bit have none.
 use native.Mathlib.Omega.{arith}
 use Rattle.lanes.proofs.Words.{ended-last, ended-more, highest-word, highest-first}
-use borrow.Author.Rules.{rules}
 use Rattle.lanes.proofs.highest.Goals as goal
 
 pub returns-then-fourth-lt64 : goal.returns-then-fourth-lt64

@@ -1,7 +1,6 @@
 -- `lanes::is_none` meets its contract: the four words together have no bit.
 use mathlib.Core.Path.{◌∙◌}
 use Rattle.lanes.proofs.Words.{none-words}
-use borrow.Author.Rules.{rules}
 use Rattle.lanes.proofs.is_none.Goals as goal
 
 pub returns : goal.returns

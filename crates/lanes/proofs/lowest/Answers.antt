@@ -4,7 +4,6 @@ use Prim.Native.Nat.{◌+◌, ◌*◌}
 use native.Mathlib.Omega.{arith}
 use Rattle.lanes.specs.Lanes.{lowest_of}
 use Rattle.lanes.proofs.Words.{clear_none, clear-more, lowest-word}
-use borrow.Author.Rules.{rules}
 use Rattle.lanes.proofs.lowest.Goals as goal
 
 pub returns-then-a-lt64 : goal.returns-then-a-lt64

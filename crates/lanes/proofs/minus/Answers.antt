@@ -6,7 +6,6 @@ use lib.Bits.{bit_and, bit_xor}
 use Rattle.lanes.specs.Lanes.{bit_of}
 use Rattle.lanes.proofs.Bits.{bit-and, bit_not}
 use Rattle.lanes.proofs.Words.{word-op}
-use borrow.Author.Rules.{rules}
 use Rattle.lanes.proofs.minus.Goals as goal
 
 pub returns : goal.returns

@@ -4,7 +4,6 @@ use Prim.Native.Nat.{ℕ}
 use lib.Bits.{bit_xor}
 use Rattle.lanes.proofs.Bits.{bit_not}
 use Rattle.lanes.proofs.Words.{word-op}
-use borrow.Author.Rules.{rules}
 use Rattle.lanes.proofs.not.Goals as goal
 
 pub returns : goal.returns

@@ -1,13 +1,11 @@
 -- `leaves::fill_rows` meets its contract. The loop's invariant: the first i rows are filled in. The measure is the number of rows left.
 use mathlib.Core.Path.{◌≡◌, refl, ◌∙◌, subst}
 use mathlib.Core.Bool.{Bool}
-use Prim.Native.Nat.{ℕ, ◌+◌, ◌*◌, ◌-◌, ◌≤◌}
+use Prim.Native.Nat.{ℕ}
 use native.Mathlib.Omega.{arith}
-use lib.ListN.{length}
 use Rattle.planes.specs.Word.{compared_in}
 use Rattle.bitsets.specs.Rows.{bit_at, Rows, put_from}
 use Rattle.sides.specs.Side.{operand_at}
-use Rattle.leaves.specs.Values.{Way}
 use Rattle.leaves.proofs.Filled.{from-rows, put-lanes, rows_start, rows_more}
 use borrow.Author.Rules.{rules}
 use Rattle.leaves.proofs.fill_rows.Goals as goal

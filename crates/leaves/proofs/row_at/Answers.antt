@@ -3,7 +3,6 @@ use mathlib.Core.Path.{ap₂, ◌∙◌}
 use Rattle.lanes.proofs.Laws.{lanes-as}
 use Rattle.planes.specs.Word.{compared_in}
 use Rattle.planes.specs.declared.operand.Operand.{Operand}
-use borrow.Author.Rules.{rules}
 use Rattle.leaves.proofs.row_at.Goals as goal
 
 pub returns-then-j-i : goal.returns-then-j-i

@@ -1,11 +1,9 @@
 -- `lists::in_lists` meets its contract. The loop's invariant: v is in the lists, whatever their numbers, when what is left of it is in
 -- those of the attributes from k on, and left is the width of these. The measure is what is left of the count.
 use mathlib.Core.Path.{◌≡◌, refl, sym, ap, ◌∙◌}
-use mathlib.Core.List.{[]}
-use Prim.Native.Nat.{◌+◌, ◌-◌, ◌/◌, ◌^◌, ◌≤◌}
+use Prim.Native.Nat.{◌+◌, ◌-◌, ◌/◌, ◌^◌}
 use native.Mathlib.Omega.{arith}
 use borrow.Author.Rules.{rules}
-use borrow.Author.Tests.{not-true, not-false}
 use lib.ListN.{drop}
 use Rattle.format.specs.Format.{within}
 use Rattle.policy.specs.Policy.{bits_for, codes, width}

@@ -1,18 +1,12 @@
 -- `lists::in_lists` meets its contract. The loop's invariant: v is in the lists, whatever their numbers, when what is left of it is in
 -- those of the attributes from k on, and left is the width of these. The measure is what is left of the count.
-use mathlib.Core.Path.{◌≡◌, refl, sym, ap, ◌∙◌}
+use mathlib.Core.Path.{◌≡◌}
 use mathlib.Core.List.{[]}
-use Prim.Native.Nat.{◌+◌, ◌-◌, ◌/◌, ◌^◌, ◌≤◌}
-use native.Mathlib.Omega.{arith}
-use borrow.Author.Rules.{rules}
-use borrow.Author.Tests.{not-true, not-false}
+use Prim.Native.Nat.{◌-◌, ◌≤◌}
 use lib.ListN.{drop}
-use Rattle.format.specs.Format.{within}
-use Rattle.policy.specs.Policy.{bits_for, codes, width}
-use Rattle.policy.specs.Rules.{attr_at, attrs_of}
-use Rattle.policy.proofs.Laws.{without_lists, width-any}
+use Rattle.policy.specs.Policy.{width}
+use Rattle.policy.specs.Rules.{attrs_of}
 use Rattle.lists.specs.Lists.{in_lists}
-use Rattle.lists.proofs.Laws.{later-width, in-none, in_rest, in-not, in-any}
 use Rattle.lists.proofs.in_lists.Given as goal
 
 abbrev pub invariant-loop-k : goal.invariant-loop-k

@@ -1,6 +1,5 @@
 -- `lists::listed` meets its contract: no value above a byte's is listed.
 use mathlib.Core.Path.{sym, ◌∙◌}
-use borrow.Author.Rules.{rules}
 use Rattle.policy.specs.Rules.{attrs_of}
 use Rattle.lists.proofs.Laws.{listed_in, listed-past}
 use Rattle.lists.proofs.listed.Goals as goal

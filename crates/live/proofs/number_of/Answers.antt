@@ -1,6 +1,5 @@
 -- `live::number_of` meets its contract, case by case.
 use mathlib.Core.Path.{sym, ap}
-use borrow.Author.Rules.{rules}
 use Rattle.live.specs.Lent.{refusal_of, host_number}
 use Rattle.live.specs.declared.Outcome.{Outcome}
 use Rattle.live.proofs.number_of.Goals as goal

@@ -1,6 +1,5 @@
 -- `monitor::step_at` meets its contract: what is judged is the step, and it is done.
 use mathlib.Core.Path.{◌∙◌}
-use borrow.Author.Rules.{rules}
 use Rattle.monitor.proofs.step_at.Goals as goal
 
 pub returns : goal.returns

@@ -1,6 +1,5 @@
 -- `planes::values_of` meets its contract: a word for each 64 numbers.
 use Rattle.lanes.proofs.Words.{lanes-by}
-use borrow.Author.Rules.{rules}
 use Rattle.planes.proofs.values_of.Goals as goal
 
 pub returns : goal.returns

@@ -3,7 +3,6 @@ use native.Mathlib.Nat.{mod-lt}
 use native.Mathlib.Omega.{arith}
 use Rattle.lanes.proofs.Laws.{lanes-as}
 use Rattle.prepared.specs.Prepared.{rowed}
-use borrow.Author.Rules.{rules}
 use Rattle.prepared.proofs.row.Goals as goal
 
 pub run-requires : goal.run-requires

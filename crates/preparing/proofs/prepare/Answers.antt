@@ -1,6 +1,5 @@
 -- `preparing::prepare` meets its contract.
 use native.Mathlib.Omega.{arith}
-use borrow.Author.Rules.{rules}
 use Rattle.preparing.proofs.prepare.Goals as goal
 
 pub prepare_with-requires : goal.prepare_with-requires

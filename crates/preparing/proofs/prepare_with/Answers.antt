@@ -6,7 +6,6 @@ use native.Mathlib.Omega.{arith}
 use lib.ListN.{length}
 use Rattle.policy.specs.Rules.{lists_of}
 use Rattle.preparing.proofs.Whole.{room_fits, stored-none, prepared-of}
-use borrow.Author.Rules.{rules}
 use Rattle.preparing.proofs.prepare_with.Goals as goal
 
 pub fill_tables-requires : goal.fill_tables-requires
@@ -34,8 +33,7 @@ lists-m-requires c =
     let w = c.requires.row_in_bounds in
     let p = c.room_of-rows.ensures in
     let q = c.room_of-outers.ensures in
-    room_fits _ _ _ _ c.larger-room.result _ p.value q.value p.result_nonzero.1 q.result_nonzero.1 w.0 w.1 c.larger-room.ensures.by_index in
-    (
+    room_fits _ _ _ _ c.larger-room.result _ p.value q.value p.result_nonzero.1 q.result_nonzero.1 w.0 w.1 c.larger-room.ensures.by_index in (
       omega (arith, c.requires),
       omega (arith, c.requires),
       omega (arith, c.requires),
@@ -60,9 +58,13 @@ returns c =
     let x = c.room_of-rows in
     let l = c.larger-room.ensures.lower_bound in
     let w = fits in
-    record { prepared = prepared-of (lists_of a.classes) a.nodes.now a.f a.lane a.row a.outer a.n c.larger-room.result x.result y.result
+    record {
+      prepared = prepared-of (lists_of a.classes) a.nodes.now a.f a.lane a.row a.outer a.n c.larger-room.result x.result y.result
           a.onlane.now a.onrow.now a.onouter.now c.requires.fact c.requires.depends c.requires.depends_2 c.requires.depends_3 c.requires.n_bound.0 w.0
           x.ensures.value y.ensures.value x.ensures.result_nonzero.0 y.ensures.result_nonzero.0 l.0 l.1 e.new.area t.new.area o.new.area _
           (stored-none _ _ _ c.none.ensures e.ensures.rows) t.ensures.tables o.ensures.worked
           m.result.across m.result.board m.result.row m.ensures.three_lists
-          (omega (arith, m.ensures.steps_len_unchanged, o.ensures.steps_len_unchanged, c.requires)) (omega (arith, w, e.ensures.area_len_unchanged, t.ensures.area_len_unchanged, o.ensures.area_len_unchanged)); steps_len_unchanged = m.ensures.steps_len_unchanged ∙ o.ensures.steps_len_unchanged; area_len_unchanged = o.ensures.area_len_unchanged ∙ t.ensures.area_len_unchanged ∙ e.ensures.area_len_unchanged }
+          (omega (arith, m.ensures.steps_len_unchanged, o.ensures.steps_len_unchanged, c.requires)) (omega (arith, w, e.ensures.area_len_unchanged, t.ensures.area_len_unchanged, o.ensures.area_len_unchanged));
+      steps_len_unchanged = m.ensures.steps_len_unchanged ∙ o.ensures.steps_len_unchanged;
+      area_len_unchanged = o.ensures.area_len_unchanged ∙ t.ensures.area_len_unchanged ∙ e.ensures.area_len_unchanged;
+    }

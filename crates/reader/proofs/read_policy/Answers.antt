@@ -4,7 +4,6 @@ use mathlib.Core.Path.{◌≡◌, refl, ◌∙◌}
 use mathlib.Core.List.{List}
 use Prim.Native.Nat.{ℕ, ◌≤◌}
 use native.Mathlib.Omega.{arith}
-use borrow.Author.Rules.{rules}
 use Rattle.format.specs.Steps.{res_of}
 use Rattle.format.proofs.Chain.{from-good, res-any, chain-pair, chain-via}
 use Rattle.policy.specs.File.{policy_format}
@@ -24,19 +23,18 @@ as_read permissions classes users sessions items lengths nodes =
     record { classes = classes; users = users; sessions = sessions; items = items; permissions = permissions; lengths = lengths; nodes = nodes }
 
 pub read_formulas-f-requires : goal.read_formulas-f-requires
-read_formulas-f-requires c =
-    (
-      c.read_counts-h.ensures.ranges.permissions,
-      omega (
-        arith,
-        c.read_values-i.ensures.pos_bound.0,
-        c.read_sessions-t.ensures.pos_bound.0,
-        c.read_values-u.ensures.pos_bound.0,
-        c.read_classes-c.ensures.pos_bound,
-        c.read_counts-h.ensures.pos_bound,
-      ),
-      c.read_values-i.ensures.count_is_place,
-    )
+read_formulas-f-requires c = (
+  c.read_counts-h.ensures.ranges.permissions,
+  omega (
+    arith,
+    c.read_values-i.ensures.pos_bound.0,
+    c.read_sessions-t.ensures.pos_bound.0,
+    c.read_values-u.ensures.pos_bound.0,
+    c.read_classes-c.ensures.pos_bound,
+    c.read_counts-h.ensures.pos_bound,
+  ),
+  c.read_values-i.ensures.count_is_place,
+)
 
 pub returns-then-next-ne0 : goal.returns-then-next-ne0
 unfolding policy_format head_of lists_of under_head as_read

@@ -8,7 +8,6 @@ use Rattle.live.specs.Lent.{refusal_of}
 use Rattle.live.proofs.Laws.{held, denied}
 use Rattle.replay.specs.Question.{asks}
 use Rattle.replay.proofs.Laws.{leaving, rows-fewer, rows-every, replay-unread, replay-unasked, replay-unstarted, replay-stopped, replay-shown, replay-missed}
-use borrow.Author.Rules.{rules as search_rules}
 use Rattle.replay.proofs.replay.Goals as goal
 
 pub returns-in-Refused : goal.returns-in-Refused

@@ -1,11 +1,11 @@
 -- `rules::copy_front` meets its contract. The invariant: the first i bytes are copied. The measure: those left.
 use mathlib.Core.Path.{◌≡◌, refl, sym, ap, ◌∙◌}
 use mathlib.Core.List.{List, ◌++◌}
-use Prim.Native.Nat.{ℕ, ◌+◌, ◌-◌, ◌≤◌}
+use Prim.Native.Nat.{ℕ, ◌+◌}
 use native.Mathlib.Omega.{arith}
 use native.Mathlib.Numerals.{add-one}
 use borrow.Author.Rules.{rules}
-use lib.ListN.{length, get_or, set, take, drop}
+use lib.ListN.{get_or, set, take, drop}
 use lib.Seq.{paste, paste-zero, paste-suc}
 use Rattle.rules.proofs.copy_front.Goals as goal
 

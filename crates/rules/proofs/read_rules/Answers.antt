@@ -3,7 +3,7 @@
 use mathlib.Core.Path.{◌≡◌, refl, sym, ap, ◌∙◌}
 use native.Mathlib.Omega.{arith}
 use Rattle.format.specs.File.{read_file}
-use Rattle.format.specs.Steps.{res_of, judged, CountIsPlace}
+use Rattle.format.specs.Steps.{res_of, CountIsPlace}
 use Rattle.format.specs.declared.Cursor.{Cursor}
 use Rattle.format.proofs.Chain.{from-good, chain-file, res-field}
 use Rattle.format.proofs.Fault.{judged-count}
@@ -11,7 +11,6 @@ use Rattle.policy.specs.File.{policy_format}
 use Rattle.policy.specs.Rules.{policy_of}
 use Rattle.rules.specs.Answers.{answer_of, beside}
 use Rattle.rules.proofs.Laws.{ends-refused, ends_read, ends-bits}
-use borrow.Author.Rules.{rules}
 use Rattle.rules.proofs.read_rules.Goals as goal
 
 pub returns-then-end-ne0 : goal.returns-then-end-ne0

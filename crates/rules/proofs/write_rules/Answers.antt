@@ -1,6 +1,6 @@
 -- `rules::write_rules` meets its contract: the pass over our own bytes tells the number, or the length, and then they begin with the file (`made`);
 -- they are copied where there is room. Assumes nothing.
-use mathlib.Core.Path.{◌≡◌, refl, sym, ap, ◌∙◌}
+use mathlib.Core.Path.{◌≡◌, refl, ap, ◌∙◌}
 use mathlib.Core.List.{List, ◌++◌}
 use native.Mathlib.Omega.{arith}
 use Prim.Native.Nat.{ℕ, ◌+◌, ◌/◌, ◌≤◌, ◌<◌}
@@ -16,7 +16,6 @@ use Rattle.policy.specs.Rules.{policy_of}
 use Rattle.policy.proofs.PolicyLaw.{lawful-policy}
 use Rattle.rules.specs.Answers.{writing}
 use Rattle.rules.proofs.Laws.{writing-is, written-short, refused-written, refused-filled, short-written, short-filled, long-written, long_filled}
-use borrow.Author.Rules.{rules}
 use Rattle.rules.proofs.write_rules.Goals as goal
 
 -- the bytes of the file that holds the rules
@@ -88,5 +87,8 @@ returns c =
     let l = file_of (policy_of a.rules) in
     let m = made c.if-last-ne0.false in
     let s : length l ≤ length a.out.now = omega (arith, m.long) in
-    let n : (c.put_policy-last.result.pos + 7) / 8 ≡ length l = m.long in record { value = long-written _ l m.file _ (length a.out.now) n s; out_after = c.copy_front.ensures ∙ ap (λ (i : ℕ). take i c.put_policy-last.new.out ++ drop i a.out.now) n
-          ∙ ap (λ (x : List ℕ). x ++ drop (length l) a.out.now) m.front ∙ long_filled _ l m.file a.out.now s }
+    let n : (c.put_policy-last.result.pos + 7) / 8 ≡ length l = m.long in record {
+      value = long-written _ l m.file _ (length a.out.now) n s;
+      out_after = c.copy_front.ensures ∙ ap (λ (i : ℕ). take i c.put_policy-last.new.out ++ drop i a.out.now) n
+          ∙ ap (λ (x : List ℕ). x ++ drop (length l) a.out.now) m.front ∙ long_filled _ l m.file a.out.now s;
+    }

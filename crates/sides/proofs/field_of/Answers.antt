@@ -4,7 +4,6 @@ use lib.ListN.{get_or}
 use Rattle.policy.specs.Policy.{bits_for}
 use Rattle.policy.specs.Rules.{attr_at}
 use Rattle.sides.proofs.Fields.{field-none, field-there}
-use borrow.Author.Rules.{rules}
 use Rattle.sides.proofs.field_of.Goals as goal
 
 pub returns-then-class-k : goal.returns-then-class-k

@@ -1,7 +1,6 @@
 -- `sides::first_alike` meets its contract: at most one operand is changed by the row, or it is the row itself.
 use borrow.Author.Tests.{not-true}
 use Rattle.sides.proofs.Repeats.{alike-still}
-use borrow.Author.Rules.{rules}
 use Rattle.sides.proofs.first_alike.Goals as goal
 
 pub returns-then-not-x : goal.returns-then-not-x

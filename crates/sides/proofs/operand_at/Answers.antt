@@ -1,6 +1,5 @@
 -- `sides::operand_at` meets its contract: a field of the row's number, or one of the lane's.
 use Rattle.sides.specs.Side.{operand_at}
-use borrow.Author.Rules.{rules}
 use Rattle.sides.proofs.operand_at.Goals as goal
 
 pub returns-then-s : goal.returns-then-s

@@ -5,7 +5,6 @@ use native.Mathlib.Nat.{mod-le, mod-eq_of_lt, div-le_self, div-eq_of_lt}
 use native.Mathlib.Omega.{arith}
 use lib.Pow.{pow_pos, pow_mono}
 use Rattle.sides.proofs.Fields.{one_shl}
-use borrow.Author.Rules.{rules}
 use Rattle.sides.proofs.part_of.Goals as goal
 
 cut : (v k : ℕ) → k < 8 → v % (1 * 2 ^ k % 2 ^ 64) ≡ v % 2 ^ k

@@ -1,6 +1,6 @@
 -- `sides::right_of` meets its contract. The loop's invariant: right is the width of the attributes from j on. The measure is j.
 use mathlib.Core.Path.{◌≡◌, sym, ap, ◌∙◌}
-use Prim.Native.Nat.{ℕ, ◌+◌, ◌*◌, ◌-◌, ◌≤◌}
+use Prim.Native.Nat.{ℕ, ◌+◌, ◌-◌}
 use native.Mathlib.Omega.{arith}
 use lib.ListN.{get_or, drop}
 use Rattle.policy.specs.Policy.{bits_for, width}

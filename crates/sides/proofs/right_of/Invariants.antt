@@ -1,12 +1,9 @@
 -- `sides::right_of` meets its contract. The loop's invariant: right is the width of the attributes from j on. The measure is j.
-use mathlib.Core.Path.{◌≡◌, sym, ap, ◌∙◌}
-use Prim.Native.Nat.{ℕ, ◌+◌, ◌*◌, ◌-◌, ◌≤◌}
-use native.Mathlib.Omega.{arith}
-use lib.ListN.{get_or, drop}
-use Rattle.policy.specs.Policy.{bits_for, width}
-use Rattle.policy.specs.Rules.{attr_at, attrs_of}
-use Rattle.formulas.proofs.TableLaws.{later-none, later_more}
-use borrow.Author.Rules.{rules}
+use mathlib.Core.Path.{◌≡◌}
+use Prim.Native.Nat.{◌+◌, ◌*◌, ◌-◌, ◌≤◌}
+use lib.ListN.{drop}
+use Rattle.policy.specs.Policy.{width}
+use Rattle.policy.specs.Rules.{attrs_of}
 use Rattle.sides.proofs.right_of.Given as goal
 
 abbrev pub invariant-loop-j : goal.invariant-loop-j

@@ -10,7 +10,6 @@ use Rattle.policy.specs.Rules.{lists_of}
 use Rattle.sides.specs.Side.{field_of, Tells}
 use Rattle.sides.specs.declared.Field.{Field}
 use Rattle.sides.proofs.Sides.{tells-constant, tells_none, tells-lane, tells_row, tells-zero}
-use borrow.Author.Rules.{rules}
 use Rattle.sides.proofs.side_of.Goals as goal
 
 pub returns-then-h-eq5 : goal.returns-then-h-eq5

@@ -2,7 +2,6 @@
 use native.Mathlib.Omega.{arith}
 use borrow.Author.Tests.{not-true}
 use Rattle.sides.proofs.Repeats.{alike-still, alike-past, start-le, start-alike}
-use borrow.Author.Rules.{rules}
 use Rattle.sides.proofs.start_of.Goals as goal
 
 pub returns-then-not-s : goal.returns-then-not-s

@@ -3,7 +3,6 @@ use mathlib.Core.Path.{◌∙◌}
 use Rattle.policy.specs.Rules.{policy_of}
 use Rattle.rules.proofs.Laws.{was-accepted, was-refused}
 use Rattle.starting.proofs.StartLaws.{start-refused, as_read, rules-read, no-rules-read, beside-number}
-use borrow.Author.Rules.{rules}
 use Rattle.starting.proofs.start.Goals as goal
 
 pub returns-in-Refused : goal.returns-in-Refused

@@ -1,7 +1,6 @@
 -- `starting::start_with` meets its contract: the two counts tell whether the cells are enough, and both fronts are written.
 use mathlib.Core.Path.{refl}
 use Rattle.starting.proofs.StartLaws.{many-sessions, many-items, starts, told}
-use borrow.Author.Rules.{rules}
 use Rattle.starting.proofs.start_with.Goals as goal
 
 pub returns-then-sessions-rules : goal.returns-then-sessions-rules

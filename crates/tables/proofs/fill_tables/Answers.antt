@@ -1,8 +1,8 @@
 -- `tables::fill_tables` meets its contract. The invariant: the tables of the first k nodes are right. The measure is how many nodes are left.
 use mathlib.Core.Path.{◌≡◌, refl, ◌∙◌, subst}
-use Prim.Native.Nat.{ℕ, ◌+◌, ◌*◌, ◌-◌, ◌≤◌}
+use Prim.Native.Nat.{ℕ, ◌+◌, ◌*◌}
 use native.Mathlib.Omega.{arith}
-use lib.ListN.{length, get_or}
+use lib.ListN.{get_or}
 use Rattle.policy.specs.Rules.{lists_of}
 use Rattle.tables.specs.Tables.{Tables}
 use Rattle.tables.proofs.Filling.{times-few, times-later, tables_start, tables_more}
@@ -42,8 +42,11 @@ pub returns : goal.returns
 returns c =
     let l = c.loop-k in
     let a = c.args in
-    let e : l.k ≡ a.n = omega arith in record { tables = subst
+    let e : l.k ≡ a.n = omega arith in record {
+      tables = subst
           (λ (k : ℕ).
           Tables (lists_of a.classes) a.lane a.row a.outer a.onlane.now a.onrow.now a.onouter.now
           (λ j. get_or a.nodes.now (64 * a.f + j) 0) a.room k a.area.now l.area)
-          e l.invariant.2; area_len_unchanged = l.invariant.1 }
+          e l.invariant.2;
+      area_len_unchanged = l.invariant.1;
+    }

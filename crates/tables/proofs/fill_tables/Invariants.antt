@@ -1,12 +1,9 @@
 -- `tables::fill_tables` meets its contract. The invariant: the tables of the first k nodes are right. The measure is how many nodes are left.
-use mathlib.Core.Path.{◌≡◌, refl, ◌∙◌, subst}
-use Prim.Native.Nat.{ℕ, ◌+◌, ◌*◌, ◌-◌, ◌≤◌}
-use native.Mathlib.Omega.{arith}
+use mathlib.Core.Path.{◌≡◌}
+use Prim.Native.Nat.{◌+◌, ◌*◌, ◌-◌, ◌≤◌}
 use lib.ListN.{length, get_or}
 use Rattle.policy.specs.Rules.{lists_of}
 use Rattle.tables.specs.Tables.{Tables}
-use Rattle.tables.proofs.Filling.{times-few, times-later, tables_start, tables_more}
-use borrow.Author.Rules.{rules}
 use Rattle.tables.proofs.fill_tables.Given as goal
 
 abbrev pub invariant-loop-k : goal.invariant-loop-k

@@ -1,8 +1,7 @@
 -- `tables::places` meets its contract. The invariant: the first k places are right. The measure is how many are left.
-use mathlib.Core.Path.{◌≡◌, sym, ◌∙◌}
-use Prim.Native.Nat.{ℕ, ◌-◌, ◌≤◌, ◌<◌}
+use mathlib.Core.Path.{sym, ◌∙◌}
 use native.Mathlib.Omega.{arith}
-use lib.ListN.{length, get_or, length-set}
+use lib.ListN.{length-set}
 use Rattle.prepared.specs.Prepared.{table_at}
 use Rattle.tables.proofs.Filling.{filled_more, times-few, table_is}
 use borrow.Author.Rules.{rules}

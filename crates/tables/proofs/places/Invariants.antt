@@ -1,11 +1,8 @@
 -- `tables::places` meets its contract. The invariant: the first k places are right. The measure is how many are left.
-use mathlib.Core.Path.{◌≡◌, sym, ◌∙◌}
+use mathlib.Core.Path.{◌≡◌}
 use Prim.Native.Nat.{ℕ, ◌-◌, ◌≤◌, ◌<◌}
-use native.Mathlib.Omega.{arith}
-use lib.ListN.{length, get_or, length-set}
+use lib.ListN.{length, get_or}
 use Rattle.prepared.specs.Prepared.{table_at}
-use Rattle.tables.proofs.Filling.{filled_more, times-few, table_is}
-use borrow.Author.Rules.{rules}
 use Rattle.tables.proofs.places.Given as goal
 
 abbrev pub invariant-loop-k : goal.invariant-loop-k

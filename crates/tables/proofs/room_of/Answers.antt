@@ -2,7 +2,6 @@
 use mathlib.Core.Path.{◌∙◌, sym, ap}
 use Prim.Native.Nat.{ℕ, ◌^◌}
 use native.Mathlib.Omega.{arith}
-use borrow.Author.Rules.{rules}
 use Rattle.policy.specs.Rules.{lists_of}
 use Rattle.tables.proofs.Filling.{room-none, room-all, room-some, shifted}
 use Rattle.tables.proofs.room_of.Goals as goal

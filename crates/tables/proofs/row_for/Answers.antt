@@ -1,5 +1,4 @@
 -- `tables::row_for` meets its contract.
-use borrow.Author.Tests.{not-true, not-false}
 use Rattle.prepared.specs.Prepared.{row_for}
 use Rattle.tables.proofs.row_for.Goals as goal
 

@@ -4,7 +4,6 @@ use native.Mathlib.Omega.{arith}
 use Rattle.policy.specs.Nodes.{op_of}
 use Rattle.policy.specs.Rules.{lists_of}
 use Rattle.tables.proofs.Filling.{rows_are, rows_few, table_none, table_filled}
-use borrow.Author.Rules.{rules}
 use Rattle.tables.proofs.table.Goals as goal
 
 pub returns-then-node-lt5 : goal.returns-then-node-lt5
@@ -24,8 +23,11 @@ pub returns : goal.returns
 returns c =
     let w = c.fill in
     let a = c.args in
-    let l = lists_of a.classes in record { table = table_filled l a.lane a.row a.outer a.onlane a.onrow a.onouter a.node a.base _ _ _ _ _
+    let l = lists_of a.classes in record {
+      table = table_filled l a.lane a.row a.outer a.onlane a.onrow a.onouter a.node a.base _ _ _ _ _
           (rows_are l a.lane a.row a.outer a.onlane a.onrow a.onouter _ _ _ c.rows_for-count.ensures c.requires.rows_value.0 c.requires.rows_value.1)
           c.lane_for-a.ensures
           c.row_for-b.ensures
-          w.ensures.rows; area_len_unchanged = w.ensures.area_len_unchanged }
+          w.ensures.rows;
+      area_len_unchanged = w.ensures.area_len_unchanged;
+    }

@@ -1,7 +1,6 @@
 -- `tables::width_of` meets its contract: the width of the holder's class.
 use mathlib.Core.Path.{ap, ◌∙◌}
 use Rattle.policy.specs.Policy.{width}
-use borrow.Author.Rules.{rules}
 use Rattle.tables.proofs.width_of.Goals as goal
 
 pub returns : goal.returns

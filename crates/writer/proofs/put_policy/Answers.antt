@@ -14,9 +14,12 @@ shape_of-out c = omega (arith, c)
 
 pub returns : goal.returns
 unfolding policy_format lists_format policy_of lists_of head_of head_for
-returns c = record { stores = stores-via _ _ _ (policy_of c.args.rules)
-          (stores-pair _ _ c.put_counts-a.ensures.stores
-          (stores-pair _ _ c.put_classes-b.ensures.stores
-          (stores-pair _ _ c.put_values-c.ensures.stores
-          (stores-pair _ _ c.put_sessions-d.ensures.stores
-          (stores-pair _ _ c.put_values-e.ensures.stores c.put_formulas.ensures.stores))))); pos_bound = omega arith }
+returns c = record {
+  stores = stores-via _ _ _ (policy_of c.args.rules)
+      (stores-pair _ _ c.put_counts-a.ensures.stores
+      (stores-pair _ _ c.put_classes-b.ensures.stores
+      (stores-pair _ _ c.put_values-c.ensures.stores
+      (stores-pair _ _ c.put_sessions-d.ensures.stores
+      (stores-pair _ _ c.put_values-e.ensures.stores c.put_formulas.ensures.stores)))));
+  pos_bound = omega arith;
+}

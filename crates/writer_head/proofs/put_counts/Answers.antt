@@ -8,7 +8,8 @@ use Rattle.writer_head.proofs.put_counts.Goals as goal
 pub returns : goal.returns
 unfolding head_format count head_of
 returns c =
-    let h = c.args.h in record { stores = stores-via _ _ _ (head_of h)
+    let h = c.args.h in record {
+      stores = stores-via _ _ _ (head_of h)
           (stores-zeros _ 7 3
           (stores-pair _ _ c.put_range-a.ensures.stores
           (stores-pair _ _ c.put_range-b.ensures.stores
@@ -16,4 +17,6 @@ returns c =
           (stores-pair _ _ c.put_range-d.ensures.stores
           (stores-pair _ _ c.put_range-e.ensures.stores
           (stores-pair _ _ c.put_range-f.ensures.stores c.put_range-g.ensures.stores))))))
-          c.put_field.ensures.stores); pos_bound = omega arith }
+          c.put_field.ensures.stores);
+      pos_bound = omega arith;
+    }

@@ -1,5 +1,4 @@
 -- `writer_head::put_range` meets its contract: the field was judged by what `within` says of its number.
-use native.Mathlib.Omega.{arith}
 use Rattle.format.specs.Format.{within}
 use Rattle.format.proofs.Store.{stores-field}
 use Rattle.writer_head.proofs.put_range.Goals as goal

@@ -1,9 +1,7 @@
 -- `alike::fields::fields_of` meets its contract: the places of holder h are filled in, where there is such a holder.
 use mathlib.Core.Path.{refl}
-use native.Mathlib.Omega.{arith}
 use Rattle.policy.specs.Rules.{attrs_of}
 use Rattle.alike.proofs.FieldLaws.{shifts-laid, shifts-not, bits-laid, bits-not}
-use borrow.Author.Rules.{rules}
 use Rattle.alike.proofs.fields.fields_of.Goals as goal
 
 pub returns-then-h-lt8 : goal.returns-then-h-lt8

@@ -1,17 +1,13 @@
 -- `alike::fields::lay` meets its contract. The loop's invariant: the places from k on are filled in, in both tables, and left is the width of
 -- these attributes. The measure is k.
-use mathlib.Core.Path.{◌≡◌, sym, ap, ◌∙◌}
+use mathlib.Core.Path.{◌≡◌}
 use mathlib.Core.List.{List}
-use Prim.Native.Nat.{ℕ, suc, ◌+◌, ◌*◌, ◌-◌, ◌<◌, ◌≤◌, min}
-use native.Mathlib.Omega.{arith}
-use lib.ListN.{length, get_or, drop}
-use Rattle.policy.specs.Policy.{Attr, no_attr, bits_for, width}
-use Rattle.policy.specs.Rules.{attr_at, attrs_of}
+use Prim.Native.Nat.{ℕ, suc, ◌+◌, ◌*◌, ◌-◌, ◌≤◌, min}
+use lib.ListN.{length, drop}
+use Rattle.policy.specs.Policy.{Attr, bits_for, width}
+use Rattle.policy.specs.Rules.{attrs_of}
 use Rattle.formulas.specs.Value.{attr_of}
 use Rattle.formulas.specs.Parts.{Filling}
-use Rattle.formulas.proofs.TableLaws.{fill_start, fill-next, fill_end, none-bits, none-past, later-past, later_more, attr-at}
-use Rattle.alike.proofs.FieldLaws.{right-at}
-use borrow.Author.Rules.{rules}
 use Rattle.alike.proofs.fields.lay.Given as goal
 
 abbrev pub right_by : List Attr → ℕ → ℕ → ℕ

@@ -5,7 +5,6 @@ use native.Mathlib.Omega.{arith}
 use Rattle.policy.specs.Rules.{lists_of, nodes_of}
 use Rattle.formulas.specs.Meaning.{holds}
 use Rattle.allowed.proofs.Laws.{says_at, says_none}
-use borrow.Author.Rules.{rules}
 use Rattle.allowed.proofs.formula.says.Goals as goal
 
 pub returns-then-rules-f : goal.returns-then-rules-f

@@ -1,7 +1,6 @@
 -- `allowed::user_value` meets its contract: past the last user there is no value.
 use mathlib.Core.Path.{sym, ◌∙◌}
 use Rattle.allowed.proofs.Laws.{value-at, value_none}
-use borrow.Author.Rules.{rules}
 use Rattle.allowed.proofs.holders.user_value.Goals as goal
 
 pub returns-then-users-u : goal.returns-then-users-u

@@ -1,6 +1,5 @@
 -- `format::bit_reader::found_at` meets its contract: the field is the one at the place, and each of the two answers has its next place.
 use Rattle.format.specs.Reader.{found_at}
-use borrow.Author.Rules.{rules}
 use Rattle.format.proofs.bit_reader.found_at.Goals as goal
 
 pub returns-in-Value : goal.returns-in-Value

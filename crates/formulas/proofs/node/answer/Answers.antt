@@ -2,7 +2,6 @@
 use mathlib.Core.Path.{sym}
 use mathlib.Core.Bool.{false}
 use lib.ListN.{get_or-eq_default}
-use borrow.Author.Rules.{rules}
 use Rattle.formulas.proofs.node.answer.Goals as goal
 
 pub returns-else-k-s : goal.returns-else-k-s

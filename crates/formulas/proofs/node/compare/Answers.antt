@@ -1,7 +1,6 @@
 -- `formulas::node::compare` meets its contract: an arm for each operator, and false for any other.
 use borrow.Author.Tests.{ne_eqb}
 use Rattle.formulas.specs.Parts.{compared_by}
-use borrow.Author.Rules.{rules}
 use Rattle.formulas.proofs.node.compare.Goals as goal
 
 pub returns-in-5 : goal.returns-in-5

@@ -1,7 +1,6 @@
 -- `formulas::node::compares` meets its contract: the values and sizes of its two operands, one after another.
 use Rattle.policy.specs.Nodes.{op_of, first_of, second_of}
 use Rattle.formulas.specs.Parts.{compared_over}
-use borrow.Author.Rules.{rules}
 use Rattle.formulas.proofs.node.compares.Goals as goal
 
 pub returns : goal.returns

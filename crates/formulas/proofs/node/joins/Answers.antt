@@ -2,7 +2,6 @@
 use borrow.Author.Tests.{ne_eqb}
 use Rattle.policy.specs.Nodes.{op_of, first_of, second_of}
 use Rattle.formulas.specs.Parts.{joined_by, joined}
-use borrow.Author.Rules.{rules}
 use Rattle.formulas.proofs.node.joins.Goals as goal
 
 pub returns-in-0 : goal.returns-in-0

@@ -3,7 +3,6 @@ use mathlib.Core.Path.{sym, ◌∙◌}
 use borrow.Author.Tests.{leb-true, leb-false}
 use Rattle.policy.specs.Nodes.{op_of}
 use Rattle.formulas.proofs.Laws.{joined-below, joined-above}
-use borrow.Author.Rules.{rules}
 use Rattle.formulas.proofs.node.says.Goals as goal
 
 pub returns-then-is_comparison : goal.returns-then-is_comparison

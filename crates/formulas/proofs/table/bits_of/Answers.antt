@@ -3,7 +3,6 @@ use mathlib.Core.Path.{sym, ap, ◌∙◌}
 use Prim.Native.Nat.{ℕ, min}
 use native.Mathlib.Omega.{arith}
 use Rattle.formulas.proofs.BitLaws.{few-atomic, bits-set}
-use borrow.Author.Rules.{rules}
 use Rattle.formulas.proofs.table.bits_of.Goals as goal
 
 pub returns-then-kind-eq0 : goal.returns-then-kind-eq0

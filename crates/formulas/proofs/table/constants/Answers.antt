@@ -1,8 +1,7 @@
 -- `formulas::table::constants` meets its contract. The loop's invariant: the places from k on are filled in. The measure is k.
 use mathlib.Core.Path.{refl}
-use Prim.Native.Nat.{ℕ, ◌-◌, ◌≤◌}
+use Prim.Native.Nat.{ℕ, ◌-◌}
 use native.Mathlib.Omega.{arith}
-use Rattle.formulas.specs.Parts.{Filling}
 use Rattle.formulas.proofs.TableLaws.{fill_start, fill-next, fill_end}
 use borrow.Author.Rules.{rules}
 use Rattle.formulas.proofs.table.constants.Goals as goal

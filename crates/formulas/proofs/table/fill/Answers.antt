@@ -2,17 +2,15 @@
 -- left of these attributes in v and w. The measure is k.
 use mathlib.Core.Path.{◌≡◌, refl, sym, ap, ◌∙◌}
 use mathlib.Core.Bool.{Bool, cond}
-use mathlib.Core.List.{List}
-use Prim.Native.Nat.{ℕ, ◌+◌, ◌*◌, ◌-◌, ◌/◌, ◌^◌, ◌<◌, ◌≤◌, min}
+use Prim.Native.Nat.{ℕ, ◌+◌, ◌-◌, ◌/◌, ◌^◌, ◌<◌, ◌≤◌, min}
 use native.Mathlib.Omega.{arith}
 use borrow.Author.Tests.{eq-eqb, ne_eqb}
 use lib.Dec.{eqb}
 use lib.ListN.{length, get_or, drop}
 use lib.Pow.{shr_le}
-use Rattle.policy.specs.Policy.{Attr, no_attr, bits_for, width}
+use Rattle.policy.specs.Policy.{no_attr, bits_for, width}
 use Rattle.policy.specs.Rules.{attr_at, attrs_of}
 use Rattle.formulas.specs.Value.{attr_of, part_of}
-use Rattle.formulas.specs.Parts.{Filling}
 use Rattle.formulas.proofs.TableLaws.{fill_start, fill-next, fill_end, none-part, none-size, none-past, later-past, part_at, left_at, size-at}
 use borrow.Author.Rules.{rules}
 use Rattle.formulas.proofs.table.fill.Invariants.{sizes-by, values-by}

@@ -1,20 +1,15 @@
 -- `formulas::table::fill` meets its contract. The loop's invariant: the places from k on are filled in, in both tables, and x and y are what stands
 -- left of these attributes in v and w. The measure is k.
-use mathlib.Core.Path.{◌≡◌, refl, sym, ap, ◌∙◌}
-use mathlib.Core.Bool.{Bool, cond}
+use mathlib.Core.Path.{◌≡◌}
+use mathlib.Core.Bool.{cond}
 use mathlib.Core.List.{List}
-use Prim.Native.Nat.{ℕ, ◌+◌, ◌*◌, ◌-◌, ◌/◌, ◌^◌, ◌<◌, ◌≤◌, min}
-use native.Mathlib.Omega.{arith}
-use borrow.Author.Tests.{eq-eqb, ne_eqb}
+use Prim.Native.Nat.{ℕ, ◌+◌, ◌*◌, ◌/◌, ◌^◌, ◌≤◌, min}
 use lib.Dec.{eqb}
-use lib.ListN.{length, get_or, drop}
-use lib.Pow.{shr_le}
-use Rattle.policy.specs.Policy.{Attr, no_attr, bits_for, width}
-use Rattle.policy.specs.Rules.{attr_at, attrs_of}
+use lib.ListN.{length, drop}
+use Rattle.policy.specs.Policy.{Attr, width}
+use Rattle.policy.specs.Rules.{attrs_of}
 use Rattle.formulas.specs.Value.{attr_of, part_of}
 use Rattle.formulas.specs.Parts.{Filling}
-use Rattle.formulas.proofs.TableLaws.{fill_start, fill-next, fill_end, none-part, none-size, none-past, later-past, part_at, left_at, size-at}
-use borrow.Author.Rules.{rules}
 use Rattle.formulas.proofs.table.fill.Given as goal
 
 -- the attributes' parts of w for the holder h, and of v for the one before it

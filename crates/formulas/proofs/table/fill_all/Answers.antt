@@ -1,7 +1,6 @@
 -- `formulas::table::fill_all` meets its contract: the places of one class's holders after another are filled in, then the constants.
 use native.Mathlib.Omega.{arith}
 use Rattle.formulas.proofs.TableLaws.{zeros-length, all-values, all-sizes}
-use borrow.Author.Rules.{rules}
 use Rattle.formulas.proofs.table.fill_all.Goals as goal
 
 pub fill-requires : goal.fill-requires

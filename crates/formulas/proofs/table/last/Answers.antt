@@ -5,7 +5,6 @@ use native.Mathlib.Nat.{one-mul, mod-le}
 use native.Mathlib.Omega.{arith}
 use lib.Bits.{bit_and, and_mask}
 use lib.Pow.{pow_pos, shl_exact}
-use borrow.Author.Rules.{rules}
 use Rattle.formulas.proofs.table.last.Goals as goal
 
 ones : (k : ℕ) → k ≤ 8 → 1 * 2 ^ k % 2 ^ 64 ≡ 2 ^ k

@@ -4,7 +4,6 @@ use Prim.Native.Nat.{◌+◌, ◌*◌}
 use native.Mathlib.Omega.{arith}
 use lib.ListN.{length-set}
 use Rattle.formulas.specs.Parts.{placed}
-use borrow.Author.Rules.{rules}
 use Rattle.formulas.proofs.table.place.Goals as goal
 
 pub bounds-table-h : goal.bounds-table-h

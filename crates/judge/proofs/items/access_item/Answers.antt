@@ -1,6 +1,5 @@
 -- `judge::items::access_item` meets its contract: each return is told by the tests before it.
 use mathlib.Core.Path.{◌∙◌}
-use borrow.Author.Rules.{rules}
 use borrow.Author.Tests.{lt-ltb, le-ltb}
 use Rattle.steps.specs.Step.{accessing, session_now, item_now}
 use Rattle.live.proofs.Laws.{here, later, all, also, fails, hold, held, denied, of-open, of-closed, of-item, of_none}

@@ -1,7 +1,6 @@
 -- `judge::sessions::change_session` meets its contract: each return is told by the tests before it.
 use mathlib.Core.Path.{◌∙◌}
 use native.Mathlib.Omega.{arith}
-use borrow.Author.Rules.{rules}
 use borrow.Author.Tests.{eq-eqb, ne_eqb}
 use Rattle.lists.proofs.Laws.{listed-byte}
 use Rattle.steps.specs.Step.{changing, session_now}

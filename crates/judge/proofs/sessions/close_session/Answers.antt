@@ -1,6 +1,5 @@
 -- `judge::sessions::close_session` meets its contract: each return is told by the tests before it.
 use mathlib.Core.Path.{◌∙◌}
-use borrow.Author.Rules.{rules}
 use borrow.Author.Tests.{eq-eqb, ne_eqb}
 use Rattle.steps.specs.Step.{closing, session_now}
 use Rattle.live.proofs.Laws.{here, all, also, fails, hold, of-open, of-closed}

@@ -1,6 +1,5 @@
 -- `judge::sessions::open_session` meets its contract: each return is told by the tests before it.
 use native.Mathlib.Omega.{arith}
-use borrow.Author.Rules.{rules}
 use borrow.Author.Tests.{lt-ltb, le-ltb}
 use Rattle.lists.proofs.Laws.{listed-byte}
 use Rattle.steps.specs.Step.{opening}

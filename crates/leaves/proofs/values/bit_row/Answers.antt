@@ -1,7 +1,6 @@
 -- `leaves::values::bit_row` meets its contract: no lane's number has more than eight bits.
 use Rattle.lanes.proofs.Laws.{lanes-as}
 use Rattle.leaves.proofs.Parts.{bits_are, bits-past}
-use borrow.Author.Rules.{rules}
 use Rattle.leaves.proofs.values.bit_row.Goals as goal
 
 pub returns-then-k-ge8 : goal.returns-then-k-ge8

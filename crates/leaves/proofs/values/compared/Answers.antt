@@ -9,7 +9,6 @@ use Rattle.planes.specs.declared.operand.Operand.{Operand}
 use Rattle.sides.specs.Side.{operand_at}
 use Rattle.leaves.specs.Values.{sided}
 use Rattle.leaves.proofs.Joins.{few-first, few-second}
-use borrow.Author.Rules.{rules}
 use Rattle.leaves.proofs.values.compared.Goals as goal
 
 pub joined-requires : goal.joined-requires

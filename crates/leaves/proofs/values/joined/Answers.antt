@@ -2,12 +2,11 @@
 -- of values left.
 use mathlib.Core.Path.{◌≡◌, sym, subst}
 use mathlib.Core.Bool.{Bool, ◌&&◌}
-use Prim.Native.Nat.{ℕ, ◌*◌, ◌-◌, ◌/◌, ◌%◌, ◌^◌, ◌≤◌}
+use Prim.Native.Nat.{ℕ, ◌*◌, ◌%◌, ◌^◌}
 use native.Mathlib.Omega.{arith}
 use lib.Dec.{ltb}
 use lib.Pow.{pow_mono}
 use Rattle.lanes.specs.Lanes.{Lanes}
-use Rattle.sides.specs.declared.Side.{Side}
 use Rattle.sides.proofs.Fields.{one_shl}
 use Rattle.leaves.specs.Values.{Hot, sided}
 use Rattle.leaves.proofs.Joins.{join-start, join_more, join-end}

@@ -1,17 +1,11 @@
 -- `leaves::values::joined` meets its contract. The loop's invariant: the lanes whose value is below k and of which the comparison holds. The measure is the number
 -- of values left.
-use mathlib.Core.Path.{◌≡◌, sym, subst}
-use mathlib.Core.Bool.{Bool, ◌&&◌}
-use Prim.Native.Nat.{ℕ, ◌*◌, ◌-◌, ◌/◌, ◌%◌, ◌^◌, ◌≤◌}
-use native.Mathlib.Omega.{arith}
+use mathlib.Core.Bool.{◌&&◌}
+use Prim.Native.Nat.{ℕ, ◌-◌, ◌/◌, ◌%◌, ◌^◌, ◌≤◌}
 use lib.Dec.{ltb}
-use lib.Pow.{pow_mono}
 use Rattle.lanes.specs.Lanes.{Lanes}
 use Rattle.sides.specs.declared.Side.{Side}
-use Rattle.sides.proofs.Fields.{one_shl}
 use Rattle.leaves.specs.Values.{Hot, sided}
-use Rattle.leaves.proofs.Joins.{join-start, join_more, join-end}
-use borrow.Author.Rules.{rules}
 use Rattle.leaves.proofs.values.joined.Given as goal
 
 -- the field x of a lane's number

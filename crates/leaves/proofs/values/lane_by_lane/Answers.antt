@@ -1,11 +1,8 @@
 -- `leaves::values::lane_by_lane` meets its contract. The loop's invariant: the lanes below v of which the comparison holds are in r. The measure is what is
 -- left of the 256.
 use mathlib.Core.Path.{ap₂, ◌∙◌}
-use mathlib.Core.Bool.{◌&&◌}
-use Prim.Native.Nat.{ℕ, ◌-◌, ◌≤◌}
+use Prim.Native.Nat.{ℕ}
 use native.Mathlib.Omega.{arith}
-use lib.Dec.{ltb}
-use Rattle.lanes.specs.Lanes.{Lanes}
 use Rattle.formulas.specs.Parts.{compared_by}
 use Rattle.planes.specs.Word.{compared_in}
 use Rattle.leaves.proofs.Joins.{number-says, below-start, below_more, below_end}

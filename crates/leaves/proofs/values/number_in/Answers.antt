@@ -3,7 +3,6 @@ use mathlib.Core.Path.{ap, ◌∙◌}
 use Prim.Native.Nat.{ℕ, ◌+◌, ◌*◌, ◌%◌, ◌^◌}
 use native.Mathlib.Omega.{arith}
 use Rattle.leaves.proofs.Joins.{number-wide, shifted-few, number-narrow}
-use borrow.Author.Rules.{rules}
 use Rattle.leaves.proofs.values.number_in.Goals as goal
 
 pub returns-then-o-ge8 : goal.returns-then-o-ge8

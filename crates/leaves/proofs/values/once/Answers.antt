@@ -2,7 +2,6 @@
 use mathlib.Core.Path.{sym, ◌∙◌}
 use Rattle.lanes.proofs.Laws.{lanes-as}
 use Rattle.leaves.proofs.Joins.{plain-operands}
-use borrow.Author.Rules.{rules}
 use Rattle.leaves.proofs.values.once.Goals as goal
 
 pub returns-then-compare : goal.returns-then-compare

@@ -1,5 +1,4 @@
 -- `leaves::values::otherwise` meets its contract.
-use borrow.Author.Rules.{rules}
 use Rattle.leaves.proofs.values.otherwise.Goals as goal
 
 pub compare_all-requires : goal.compare_all-requires

@@ -5,7 +5,6 @@ use Prim.Native.Nat.{ℕ, ◌+◌, ◌<◌}
 use Rattle.lanes.specs.Lanes.{lane_of}
 use Rattle.bitsets.specs.Rows.{bit_at}
 use Rattle.leaves.proofs.Parts.{put-put, put_as}
-use borrow.Author.Rules.{rules}
 use Rattle.leaves.proofs.values.part.Goals as goal
 
 pub returns : goal.returns

@@ -1,8 +1,7 @@
 -- `leaves::values::part_all` meets its contract. The loop's invariant: the first z rows are parted. The measure is the number of rows left.
 use mathlib.Core.Path.{◌≡◌, refl, ◌∙◌, subst}
-use Prim.Native.Nat.{ℕ, ◌*◌, ◌-◌, ◌≤◌}
+use Prim.Native.Nat.{ℕ}
 use native.Mathlib.Omega.{arith}
-use lib.ListN.{length}
 use Rattle.lanes.specs.Lanes.{lane_of}
 use Rattle.bitsets.specs.Rows.{bit_at, Rows}
 use Rattle.leaves.specs.Values.{parted}

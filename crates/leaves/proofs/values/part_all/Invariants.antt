@@ -1,13 +1,10 @@
 -- `leaves::values::part_all` meets its contract. The loop's invariant: the first z rows are parted. The measure is the number of rows left.
-use mathlib.Core.Path.{◌≡◌, refl, ◌∙◌, subst}
-use Prim.Native.Nat.{ℕ, ◌*◌, ◌-◌, ◌≤◌}
-use native.Mathlib.Omega.{arith}
+use mathlib.Core.Path.{◌≡◌}
+use Prim.Native.Nat.{◌*◌, ◌-◌, ◌≤◌}
 use lib.ListN.{length}
 use Rattle.lanes.specs.Lanes.{lane_of}
 use Rattle.bitsets.specs.Rows.{bit_at, Rows}
 use Rattle.leaves.specs.Values.{parted}
-use Rattle.leaves.proofs.Parts.{parted-start, parted-more}
-use borrow.Author.Rules.{rules}
 use Rattle.leaves.proofs.values.part_all.Given as goal
 
 abbrev pub invariant-loop-z : goal.invariant-loop-z

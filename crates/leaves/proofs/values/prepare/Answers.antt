@@ -1,6 +1,5 @@
 -- `leaves::values::prepare` meets its contract: one operand has few values and its rows are laid out, or neither has.
 use Rattle.leaves.proofs.Joins.{way-first, way-second, way-none}
-use borrow.Author.Rules.{rules}
 use Rattle.leaves.proofs.values.prepare.Goals as goal
 
 pub value_rows-requires : goal.value_rows-requires

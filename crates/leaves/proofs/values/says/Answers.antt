@@ -1,7 +1,6 @@
 -- `leaves::values::says` meets its contract: the field is the second operand, or the first.
 use mathlib.Core.Path.{◌∙◌}
 use Rattle.leaves.proofs.Joins.{sided-second, sided-first}
-use borrow.Author.Rules.{rules}
 use Rattle.leaves.proofs.values.says.Goals as goal
 
 pub returns-then-second : goal.returns-then-second

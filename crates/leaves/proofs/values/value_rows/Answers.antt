@@ -1,8 +1,7 @@
 -- `leaves::values::value_rows` meets its contract. The loop's invariant: the rows are those of the values of the first k bits. The measure is the number of bits left.
 use mathlib.Core.Path.{◌≡◌, ◌∙◌, subst}
-use Prim.Native.Nat.{ℕ, ◌-◌, ◌/◌, ◌%◌, ◌^◌, ◌≤◌}
+use Prim.Native.Nat.{ℕ, ◌/◌, ◌%◌, ◌^◌}
 use native.Mathlib.Omega.{arith}
-use lib.ListN.{length}
 use lib.Pow.{pow_mono}
 use Rattle.leaves.specs.Values.{Hot}
 use Rattle.sides.proofs.Fields.{one_shl}

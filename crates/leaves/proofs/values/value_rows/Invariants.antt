@@ -1,13 +1,8 @@
 -- `leaves::values::value_rows` meets its contract. The loop's invariant: the rows are those of the values of the first k bits. The measure is the number of bits left.
-use mathlib.Core.Path.{◌≡◌, ◌∙◌, subst}
-use Prim.Native.Nat.{ℕ, ◌-◌, ◌/◌, ◌%◌, ◌^◌, ◌≤◌}
-use native.Mathlib.Omega.{arith}
+use mathlib.Core.Path.{◌≡◌}
+use Prim.Native.Nat.{◌-◌, ◌/◌, ◌%◌, ◌^◌, ◌≤◌}
 use lib.ListN.{length}
-use lib.Pow.{pow_mono}
 use Rattle.leaves.specs.Values.{Hot}
-use Rattle.sides.proofs.Fields.{one_shl}
-use Rattle.leaves.proofs.Parts.{hot-start, hot-more}
-use borrow.Author.Rules.{rules}
 use Rattle.leaves.proofs.values.value_rows.Given as goal
 
 abbrev pub invariant-loop-k : goal.invariant-loop-k

@@ -4,7 +4,6 @@ use native.Mathlib.Omega.{arith}
 use Rattle.planes.proofs.Words.{told-as}
 use Rattle.planes.proofs.Turns.{told_and, told-not}
 use Rattle.planes.proofs.Comparisons.{compared-member, compared-subset, compared-proper}
-use borrow.Author.Rules.{rules}
 use Rattle.planes.proofs.comparison.compare.Goals as goal
 
 pub returns-in-8 : goal.returns-in-8

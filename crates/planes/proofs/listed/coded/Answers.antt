@@ -9,7 +9,6 @@ use Rattle.planes.specs.Word.{number_in}
 use Rattle.planes.proofs.Numbers.{number-constant}
 use Rattle.planes.proofs.Words.{told-as, told-byte, told-all}
 use Rattle.planes.proofs.Values.{code-set, code-atomic, code-full, field-number}
-use borrow.Author.Rules.{rules}
 use Rattle.planes.proofs.listed.coded.Goals as goal
 
 pub returns-then-kind-ne0 : goal.returns-then-kind-ne0

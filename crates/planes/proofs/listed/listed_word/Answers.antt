@@ -2,8 +2,7 @@
 -- whatever the numbers of these, and right is their width. The measure is k.
 use mathlib.Core.Path.{◌≡◌, sym, ap, ap₂, ◌∙◌}
 use mathlib.Core.Bool.{◌&&◌}
-use mathlib.Core.List.{[]}
-use Prim.Native.Nat.{ℕ, ◌+◌, ◌*◌, ◌-◌, ◌/◌, ◌%◌, ◌^◌, ◌≤◌}
+use Prim.Native.Nat.{ℕ, ◌+◌, ◌-◌, ◌/◌, ◌%◌, ◌^◌}
 use native.Mathlib.Omega.{arith}
 use lib.ListN.{drop}
 use lib.Dec.{ltb, eqb}
@@ -13,7 +12,6 @@ use Rattle.policy.proofs.Laws.{without_lists}
 use Rattle.lists.specs.Lists.{in_lists}
 use Rattle.lists.proofs.Laws.{later-width, listed-any}
 use Rattle.formulas.proofs.TableLaws.{later-none}
-use Rattle.planes.specs.Word.{Told}
 use Rattle.planes.proofs.Words.{word-as, told-as, told-all, told-word}
 use Rattle.planes.proofs.Turns.{told_and}
 use Rattle.planes.proofs.Values.{in_start, in-more, in_whole}

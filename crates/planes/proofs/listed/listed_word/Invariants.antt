@@ -1,23 +1,13 @@
 -- `planes::listed::listed_word` meets its contract. The loop's invariant: what the attributes from k on take of the number is in their lists,
 -- whatever the numbers of these, and right is their width. The measure is k.
-use mathlib.Core.Path.{◌≡◌, sym, ap, ap₂, ◌∙◌}
-use mathlib.Core.Bool.{◌&&◌}
+use mathlib.Core.Path.{◌≡◌}
 use mathlib.Core.List.{[]}
-use Prim.Native.Nat.{ℕ, ◌+◌, ◌*◌, ◌-◌, ◌/◌, ◌%◌, ◌^◌, ◌≤◌}
-use native.Mathlib.Omega.{arith}
+use Prim.Native.Nat.{◌*◌, ◌-◌, ◌%◌, ◌^◌, ◌≤◌}
 use lib.ListN.{drop}
-use lib.Dec.{ltb, eqb}
-use Rattle.policy.specs.Policy.{Attr, bits_for, codes, width}
-use Rattle.policy.specs.Rules.{attr_at, attrs_of}
-use Rattle.policy.proofs.Laws.{without_lists}
+use Rattle.policy.specs.Policy.{width}
+use Rattle.policy.specs.Rules.{attrs_of}
 use Rattle.lists.specs.Lists.{in_lists}
-use Rattle.lists.proofs.Laws.{later-width, listed-any}
-use Rattle.formulas.proofs.TableLaws.{later-none}
 use Rattle.planes.specs.Word.{Told}
-use Rattle.planes.proofs.Words.{word-as, told-as, told-all, told-word}
-use Rattle.planes.proofs.Turns.{told_and}
-use Rattle.planes.proofs.Values.{in_start, in-more, in_whole}
-use borrow.Author.Rules.{rules}
 use Rattle.planes.proofs.listed.listed_word.Given as goal
 
 abbrev pub invariant-loop-k : goal.invariant-loop-k

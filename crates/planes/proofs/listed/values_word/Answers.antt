@@ -8,7 +8,6 @@ use Rattle.policy.specs.Policy.{width}
 use Rattle.policy.specs.Rules.{attrs_of}
 use Rattle.planes.proofs.Words.{word_none}
 use Rattle.planes.proofs.Values.{in-wider}
-use borrow.Author.Rules.{rules}
 use Rattle.planes.proofs.listed.values_word.Goals as goal
 
 pub returns-then-n-w : goal.returns-then-n-w

@@ -4,7 +4,6 @@ use native.Mathlib.Omega.{arith}
 use Rattle.planes.proofs.Numbers.{bit-out, number-low, number_bit}
 use Rattle.planes.proofs.Words.{told-as, told_none, told-whole, told-plane}
 use Rattle.lanes.specs.Lanes.{bit_of}
-use borrow.Author.Rules.{rules}
 use Rattle.planes.proofs.operand.bit.Goals as goal
 
 pub returns-then-k-o : goal.returns-then-k-o

@@ -1,9 +1,9 @@
 -- `planes::operand::order` meets its contract. The loop's invariant: what stands left of bit k is below, and is the same. The measure is k.
 use mathlib.Core.Path.{◌≡◌, sym, ap, ap₂, ◌∙◌}
-use Prim.Native.Nat.{ℕ, ◌+◌, ◌-◌, ◌/◌, ◌^◌, ◌≤◌}
+use Prim.Native.Nat.{ℕ, ◌+◌, ◌-◌, ◌/◌, ◌^◌}
 use native.Mathlib.Omega.{arith}
 use lib.Dec.{ltb, eqb}
-use Rattle.planes.specs.Word.{Told, number_in}
+use Rattle.planes.specs.Word.{number_in}
 use Rattle.planes.proofs.Numbers.{number-high}
 use Rattle.planes.proofs.Words.{told-as, told-whole}
 use Rattle.planes.proofs.Turns.{below-turn, same_turn}

@@ -1,13 +1,7 @@
 -- `planes::operand::order` meets its contract. The loop's invariant: what stands left of bit k is below, and is the same. The measure is k.
-use mathlib.Core.Path.{◌≡◌, sym, ap, ap₂, ◌∙◌}
-use Prim.Native.Nat.{ℕ, ◌+◌, ◌-◌, ◌/◌, ◌^◌, ◌≤◌}
-use native.Mathlib.Omega.{arith}
+use Prim.Native.Nat.{◌/◌, ◌^◌, ◌≤◌}
 use lib.Dec.{ltb, eqb}
 use Rattle.planes.specs.Word.{Told, number_in}
-use Rattle.planes.proofs.Numbers.{number-high}
-use Rattle.planes.proofs.Words.{told-as, told-whole}
-use Rattle.planes.proofs.Turns.{below-turn, same_turn}
-use borrow.Author.Rules.{rules}
 use Rattle.planes.proofs.operand.order.Given as goal
 
 abbrev pub invariant-loop-k : goal.invariant-loop-k

@@ -5,7 +5,6 @@ use Rattle.bits.proofs.Set.{no_member}
 use Rattle.planes.specs.Word.{number_in}
 use Rattle.planes.proofs.Words.{told-as, told_none}
 use Rattle.planes.proofs.Turns.{has_in}
-use borrow.Author.Rules.{rules}
 use Rattle.planes.proofs.set.has.Goals as goal
 
 pub returns-then-i-n : goal.returns-then-i-n

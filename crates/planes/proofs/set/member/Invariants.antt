@@ -1,17 +1,9 @@
 -- `planes::set::member` meets its contract. The loop's invariant: the number is below i, and a member. The measure is what is left of eight.
-use mathlib.Core.Path.{◌≡◌, sym, ap, ◌∙◌}
-use mathlib.Core.Bool.{Bool, ◌&&◌}
-use Prim.Native.Nat.{ℕ, ◌-◌, ◌≤◌}
-use native.Mathlib.Omega.{arith}
-use borrow.Author.Tests.{le-ltb}
-use lib.Dec.{ltb, eqb}
+use mathlib.Core.Bool.{◌&&◌}
+use Prim.Native.Nat.{◌-◌, ◌≤◌}
+use lib.Dec.{ltb}
 use Rattle.bits.specs.Set.{in_set}
 use Rattle.planes.specs.Word.{Told, number_in}
-use Rattle.planes.specs.declared.operand.Operand.{Operand}
-use Rattle.planes.proofs.Numbers.{number-constant, number-plain}
-use Rattle.planes.proofs.Words.{told-as, told_none}
-use Rattle.planes.proofs.Turns.{member-turn, member-all}
-use borrow.Author.Rules.{rules}
 use Rattle.planes.proofs.set.member.Given as goal
 
 abbrev pub invariant-loop-i : goal.invariant-loop-i

@@ -2,10 +2,9 @@
 -- what is left of the size.
 use mathlib.Core.Path.{◌≡◌, ap}
 use mathlib.Core.Bool.{not, ◌||◌}
-use Prim.Native.Nat.{◌-◌, ◌≤◌}
 use native.Mathlib.Omega.{arith}
 use Rattle.bits.specs.Set.{size_of, in_set, all_below, subset_of}
-use Rattle.planes.specs.Word.{Told, number_in}
+use Rattle.planes.specs.Word.{number_in}
 use Rattle.planes.proofs.Words.{told-as, told-all}
 use Rattle.planes.proofs.Turns.{subset-turn}
 use borrow.Author.Rules.{rules}

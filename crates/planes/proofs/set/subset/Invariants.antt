@@ -1,14 +1,10 @@
 -- `planes::set::subset` meets its contract. The loop's invariant: the first i members of x, where they are any, are members of y. The measure is
 -- what is left of the size.
-use mathlib.Core.Path.{◌≡◌, ap}
+use mathlib.Core.Path.{◌≡◌}
 use mathlib.Core.Bool.{not, ◌||◌}
 use Prim.Native.Nat.{◌-◌, ◌≤◌}
-use native.Mathlib.Omega.{arith}
-use Rattle.bits.specs.Set.{size_of, in_set, all_below, subset_of}
+use Rattle.bits.specs.Set.{size_of, in_set, all_below}
 use Rattle.planes.specs.Word.{Told, number_in}
-use Rattle.planes.proofs.Words.{told-as, told-all}
-use Rattle.planes.proofs.Turns.{subset-turn}
-use borrow.Author.Rules.{rules}
 use Rattle.planes.proofs.set.subset.Given as goal
 
 abbrev pub invariant-loop-i : goal.invariant-loop-i

@@ -2,7 +2,6 @@
 use Prim.Native.Nat.{◌+◌}
 use borrow.Author.Tests.{leb-true}
 use Rattle.planes.proofs.Numbers.{number-alike, plain-alike}
-use borrow.Author.Rules.{rules}
 use Rattle.planes.proofs.wide.alike.Goals as goal
 
 pub returns-then-o-eq0 : goal.returns-then-o-eq0

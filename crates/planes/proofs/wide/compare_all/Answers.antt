@@ -3,7 +3,6 @@ use mathlib.Core.Path.{◌∙◌}
 use Rattle.lanes.proofs.Words.{lanes-by}
 use Rattle.planes.specs.Word.{compared_in}
 use Rattle.planes.proofs.Comparisons.{compared-alike}
-use borrow.Author.Rules.{rules}
 use Rattle.planes.proofs.wide.compare_all.Goals as goal
 
 pub returns-then-alike-2 : goal.returns-then-alike-2

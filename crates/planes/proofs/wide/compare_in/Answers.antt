@@ -1,6 +1,5 @@
 -- `planes::wide::compare_in` meets its contract: the planes are those of the word.
 use Rattle.planes.proofs.Words.{told-word}
-use borrow.Author.Rules.{rules}
 use Rattle.planes.proofs.wide.compare_in.Goals as goal
 
 pub returns : goal.returns

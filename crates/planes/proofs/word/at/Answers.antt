@@ -1,7 +1,6 @@
 -- `planes::word::at` meets its contract: past the end there is nothing.
 use mathlib.Core.Path.{sym}
 use lib.ListN.{get_or-eq_default}
-use borrow.Author.Rules.{rules}
 use Rattle.planes.proofs.word.at.Goals as goal
 
 pub returns-else-k-s : goal.returns-else-k-s

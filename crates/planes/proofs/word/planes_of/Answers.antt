@@ -1,6 +1,5 @@
 -- `planes::word::planes_of` meets its contract: six planes are the same in every word, and two are bits of the word's number.
 use Rattle.planes.proofs.Words.{planes-whole}
-use borrow.Author.Rules.{rules}
 use Rattle.planes.proofs.word.planes_of.Goals as goal
 
 pub returns : goal.returns

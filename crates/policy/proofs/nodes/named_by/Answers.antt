@@ -4,12 +4,11 @@ use mathlib.Core.Path.{◌≡◌, sym, ap, ◌∙◌}
 use mathlib.Core.Bool.{Bool, false, ◌||◌}
 use Prim.Native.Nat.{ℕ}
 use native.Mathlib.Omega.{arith}
-use borrow.Author.Rules.{rules}
-use borrow.Author.Tests.{lt-ltb, le-ltb, eq-eqb, ne_eqb, not-true, not-false}
+use borrow.Author.Tests.{lt-ltb, le-ltb, ne_eqb}
 use lib.Dec.{eqb}
 use Rattle.policy.specs.Nodes.{holder_of, place_of, names}
 use Rattle.policy.specs.Rules.{lists_of}
-use Rattle.policy.proofs.NodeLaws.{or-false, or-never, names-barred, names-past, names-place, list-place, barred-constant, atomic-constant, atomic-attribute}
+use Rattle.policy.proofs.NodeLaws.{or-never, names-barred, names-past, names-place, list-place, barred-constant, atomic-constant, atomic-attribute}
 use Rattle.policy.proofs.nodes.named_by.Goals as goal
 
 pub returns-then-k-lt16 : goal.returns-then-k-lt16

@@ -1,5 +1,4 @@
 -- `policy::nodes::takes_nodes` meets its contract: each return is one case of the definition. Assumes nothing.
-use native.Mathlib.Omega.{arith}
 use borrow.Author.Tests.{le-leb, lt-leb, lt-ltb, le-ltb, eq-eqb, ne_eqb}
 use Rattle.policy.proofs.NodeLaws.{cond_same}
 use Rattle.policy.proofs.nodes.takes_nodes.Goals as goal

@@ -1,6 +1,5 @@
 -- `policy::bits_for` meets its contract: the bits of a value by the attribute's kind.
 -- Assumes nothing.
-use borrow.Author.Rules.{rules}
 use borrow.Author.Tests.{eq-eqb, ne_eqb}
 use Rattle.policy.specs.Policy.{bits_for}
 use Rattle.policy.proofs.shape.bits_for.Goals as goal

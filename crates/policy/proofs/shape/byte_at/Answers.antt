@@ -1,7 +1,6 @@
 -- `policy::byte_at` meets its contract: past the end `get_or` gives 0.
 -- Assumes nothing.
 use mathlib.Core.Path.{sym}
-use borrow.Author.Rules.{rules}
 use lib.ListN.{get_or-eq_default}
 use Rattle.policy.proofs.shape.byte_at.Goals as goal
 

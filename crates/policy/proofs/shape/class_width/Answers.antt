@@ -1,8 +1,7 @@
 -- `policy::class_width` meets its contract. The loop's invariant: w is the width of the first i attributes, whatever their lists, and at most 255 for
 -- each. The measure is what is left of the count. Assumes nothing.
 use mathlib.Core.Path.{◌≡◌, refl, sym, ap, ◌∙◌}
-use mathlib.Core.List.{[]}
-use Prim.Native.Nat.{ℕ, ◌*◌, ◌-◌, ◌≤◌}
+use Prim.Native.Nat.{ℕ}
 use native.Mathlib.Omega.{arith}
 use borrow.Author.Rules.{rules}
 use Rattle.policy.specs.Policy.{width, bits_for}

@@ -1,13 +1,10 @@
 -- `policy::class_width` meets its contract. The loop's invariant: w is the width of the first i attributes, whatever their lists, and at most 255 for
 -- each. The measure is what is left of the count. Assumes nothing.
-use mathlib.Core.Path.{◌≡◌, refl, sym, ap, ◌∙◌}
+use mathlib.Core.Path.{◌≡◌}
 use mathlib.Core.List.{[]}
-use Prim.Native.Nat.{ℕ, ◌*◌, ◌-◌, ◌≤◌}
-use native.Mathlib.Omega.{arith}
-use borrow.Author.Rules.{rules}
-use Rattle.policy.specs.Policy.{width, bits_for}
-use Rattle.policy.specs.Rules.{attr_at, attrs_of}
-use Rattle.policy.proofs.Laws.{cut, without_lists, attrs-none, attrs-next, width-none, width-more, width-any}
+use Prim.Native.Nat.{◌*◌, ◌-◌, ◌≤◌}
+use Rattle.policy.specs.Policy.{width}
+use Rattle.policy.specs.Rules.{attrs_of}
 use Rattle.policy.proofs.shape.class_width.Given as goal
 
 abbrev pub invariant-loop-i : goal.invariant-loop-i

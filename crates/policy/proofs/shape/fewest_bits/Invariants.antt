@@ -1,12 +1,7 @@
 -- `policy::fewest_bits` meets its contract. The loop's invariant: w is at most 8, and at most the fewest bits. The measure is what is left of 8.
 -- Assumes nothing.
-use mathlib.Core.Path.{◌≡◌}
-use Prim.Native.Nat.{ℕ, ◌*◌, ◌-◌, ◌%◌, ◌^◌, ◌≤◌, ◌<◌}
-use native.Mathlib.Omega.{arith}
-use borrow.Author.Rules.{rules}
-use lib.Pow.{shl_exact}
+use Prim.Native.Nat.{◌-◌, ◌≤◌}
 use Rattle.policy.specs.Policy.{fewest_bits}
-use Rattle.policy.proofs.Laws.{fewest-least, fewest-over}
 use Rattle.policy.proofs.shape.fewest_bits.Given as goal
 
 abbrev pub invariant-loop-w : goal.invariant-loop-w

@@ -1,6 +1,5 @@
 -- `policy::shape::set_size` meets its contract: past the end, a store changes nothing. Assumes nothing.
 use mathlib.Core.Path.{refl, sym}
-use borrow.Author.Rules.{rules}
 use lib.Seq.{set_out}
 use Rattle.policy.proofs.shape.set_size.Goals as goal
 

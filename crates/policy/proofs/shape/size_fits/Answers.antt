@@ -1,7 +1,4 @@
 -- `policy::shape::size_fits` meets its contract: each return is one case of the definition. Assumes nothing.
-use mathlib.Core.Path.{sym, ap}
-use Prim.Native.Nat.{ℕ}
-use borrow.Author.Rules.{rules}
 use borrow.Author.Tests.{eq-eqb, ne_eqb}
 use Rattle.policy.specs.File.{size_fits}
 use Rattle.policy.proofs.shape.size_fits.Goals as goal

@@ -1,11 +1,8 @@
 -- `preparing::levels::either` meets its contract. The invariant: the first k flags are right. The measure is how many are left.
-use mathlib.Core.Path.{◌≡◌, refl, ◌∙◌}
+use mathlib.Core.Path.{◌≡◌}
 use mathlib.Core.Bool.{false, ◌||◌}
 use Prim.Native.Nat.{ℕ, ◌-◌, ◌≤◌, ◌<◌}
-use native.Mathlib.Omega.{arith}
-use lib.ListN.{length, get_or, length-set}
-use Rattle.tables.proofs.Filling.{filled_more}
-use borrow.Author.Rules.{rules}
+use lib.ListN.{length, get_or}
 use Rattle.preparing.proofs.levels.either.Given as goal
 
 abbrev pub invariant-loop-k : goal.invariant-loop-k

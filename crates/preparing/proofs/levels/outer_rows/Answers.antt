@@ -17,19 +17,26 @@ run-requires c =
     let w = c.places in
     let L =
     listed-neither a.nodes.now a.f a.n a.room w.new.bases w.ensures.by_index 129 65 c.either.new.out
-    a.onlane.now a.onrow.now 0 m.result _ c.requires.n_bound.0 c.either.ensures.by_index m.ensures.listed in record { m_in_bounds = omega (arith, m.ensures.upper_bound, m.ensures.steps_len_unchanged, c.requires.n_bound); by_index = steps-fit (nodes_of a.nodes.now a.f a.n) a.n 0 129 65 a.room _ _ _ _ c.requires.n_bound.0 c.requires.room_nonzero.0 c.requires.room_nonzero.1 (omega arith)
-          (omega arith) c.requires.room_nonzero.2 0 m.result _ L }
+    a.onlane.now a.onrow.now 0 m.result _ c.requires.n_bound.0 c.either.ensures.by_index m.ensures.listed in record {
+      m_in_bounds = omega (arith, m.ensures.upper_bound, m.ensures.steps_len_unchanged, c.requires.n_bound);
+      by_index = steps-fit (nodes_of a.nodes.now a.f a.n) a.n 0 129 65 a.room _ _ _ _ c.requires.n_bound.0 c.requires.room_nonzero.0 c.requires.room_nonzero.1 (omega arith)
+          (omega arith) c.requires.room_nonzero.2 0 m.result _ L;
+    }
 
 pub returns : goal.returns
 returns c =
     let r = c.run in
     let a = c.args in
     let m = c.list-m in
-    let w = c.places in record { worked = record {
+    let w = c.places in record {
+      worked = record {
         steps = m.new.steps;
         many = m.result;
         listed =
             listed-neither a.nodes.now a.f a.n a.room w.new.bases w.ensures.by_index 129 65 c.either.new.out
             a.onlane.now a.onrow.now 0 m.result _ c.requires.n_bound.0 c.either.ensures.by_index m.ensures.listed;
         rows_are = r.ensures.rows;
-      }; area_len_unchanged = r.ensures.area_len_unchanged; steps_len_unchanged = m.ensures.steps_len_unchanged }
+      };
+      area_len_unchanged = r.ensures.area_len_unchanged;
+      steps_len_unchanged = m.ensures.steps_len_unchanged;
+    }

@@ -5,7 +5,6 @@ use native.Mathlib.Omega.{arith}
 use Rattle.policy.specs.Nodes.{op_of, first_of, second_of}
 use Rattle.bitsets.specs.Steps.{step_of}
 use Rattle.prepared.proofs.Lists.{ref-few}
-use borrow.Author.Rules.{rules}
 use Rattle.preparing.proofs.steps.join_step.Goals as goal
 
 pub step-requires : goal.step-requires

@@ -1,11 +1,10 @@
 -- `preparing::steps::list` meets its contract. Each turn adds the step of one node more, where it is chosen; places before the first stay.
 use mathlib.Core.Path.{◌≡◌, refl, ap, ◌∙◌, subst}
-use mathlib.Core.Bool.{Bool, false}
-use mathlib.Core.List.{List}
-use Prim.Native.Nat.{ℕ, ◌+◌, ◌*◌, ◌-◌, ◌≤◌, ◌<◌}
+use mathlib.Core.Bool.{false}
+use Prim.Native.Nat.{ℕ, ◌+◌}
 use native.Mathlib.Omega.{arith}
-use lib.ListN.{length, get_or}
-use Rattle.prepared.specs.Level.{node_step, same_as, Listed}
+use lib.ListN.{get_or}
+use Rattle.prepared.specs.Level.{node_step}
 use Rattle.prepared.proofs.Lists.{listed_start, listed_more, listed-few, added-long, added-below}
 use borrow.Author.Rules.{rules}
 use Rattle.preparing.proofs.steps.list.Invariants.{Done}
@@ -47,8 +46,13 @@ pub returns : goal.returns
 returns c =
     let l = c.loop-k in
     let a = c.args in
-    let e : l.k ≡ a.n = omega arith in record { listed = subst
+    let e : l.k ≡ a.n = omega arith in record {
+      listed = subst
           (λ (k : ℕ).
           Done a.nodes.now a.f a.flags.now a.wanted a.differ.now a.indexed.now a.bases.now a.own a.from k a.first
           l.m l.steps)
-          e l.invariant.3; steps_len_unchanged = l.invariant.2; by_index_2 = l.invariant.4; upper_bound = omega arith }
+          e l.invariant.3;
+      steps_len_unchanged = l.invariant.2;
+      by_index_2 = l.invariant.4;
+      upper_bound = omega arith;
+    }

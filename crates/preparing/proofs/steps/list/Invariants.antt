@@ -1,13 +1,10 @@
 -- `preparing::steps::list` meets its contract. Each turn adds the step of one node more, where it is chosen; places before the first stay.
-use mathlib.Core.Path.{◌≡◌, refl, ap, ◌∙◌, subst}
+use mathlib.Core.Path.{◌≡◌}
 use mathlib.Core.Bool.{Bool, false}
 use mathlib.Core.List.{List}
 use Prim.Native.Nat.{ℕ, ◌+◌, ◌*◌, ◌-◌, ◌≤◌, ◌<◌}
-use native.Mathlib.Omega.{arith}
 use lib.ListN.{length, get_or}
 use Rattle.prepared.specs.Level.{node_step, same_as, Listed}
-use Rattle.prepared.proofs.Lists.{listed_start, listed_more, listed-few, added-long, added-below}
-use borrow.Author.Rules.{rules}
 use Rattle.preparing.proofs.steps.list.Given as goal
 
 -- the steps of the first k nodes are listed

@@ -1,7 +1,6 @@
 -- `preparing::steps::node_step` meets its contract: a law for each of the four kinds of steps.
 use mathlib.Core.Path.{sym, ◌∙◌}
 use native.Mathlib.Omega.{arith}
-use borrow.Author.Tests.{not-true, not-false}
 use Rattle.policy.specs.Nodes.{op_of}
 use Rattle.prepared.proofs.Lists.{step-told, step-join, step-taken, step-copied}
 use borrow.Author.Rules.{rules}

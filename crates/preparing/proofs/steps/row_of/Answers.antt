@@ -2,7 +2,6 @@
 use mathlib.Core.Path.{sym}
 use native.Mathlib.Omega.{arith}
 use Rattle.prepared.proofs.Lists.{ref-earlier, ref-none}
-use borrow.Author.Rules.{rules}
 use Rattle.preparing.proofs.steps.row_of.Goals as goal
 
 pub returns-then-j-k : goal.returns-then-j-k

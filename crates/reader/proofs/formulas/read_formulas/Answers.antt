@@ -3,20 +3,18 @@
 -- Assumes nothing.
 use mathlib.Core.Path.{◌≡◌, ap, sym, ◌∙◌}
 use mathlib.Core.List.{List}
-use Prim.Native.Nat.{ℕ, ◌+◌, ◌-◌, ◌*◌, ◌≤◌, ◌<◌}
+use Prim.Native.Nat.{ℕ, ◌+◌, ◌≤◌, ◌<◌}
 use native.Mathlib.Decide.{dec_lt}
 use native.Mathlib.Omega.{arith}
 use borrow.Author.Rules.{rules}
 use lib.ListN.{length, get_or, set}
 use lib.Seq.{get_or-set_same, get_or-set_other}
-use Rattle.format.specs.Format.{Format}
-use Rattle.format.specs.Steps.{from, res_of, CountIsPlace}
+use Rattle.format.specs.Steps.{from, res_of}
 use Rattle.format.proofs.Chain.{chain-pair, chain-via, res-field}
 use Rattle.policy.specs.File.{formula_format}
 use Rattle.policy.specs.Rules.{lists_of, nodes_of, formulas_of}
-use Rattle.policy.specs.declared.Classes.{Classes}
 use Rattle.policy.proofs.Laws.{formulas-none, formulas-more, formulas-length}
-use Rattle.reader_head.proofs.Reached.{Reached, reached-none, reached-more, reached-all}
+use Rattle.reader_head.proofs.Reached.{reached-none, reached-more, reached-all}
 use Rattle.reader.proofs.formulas.read_formulas.Invariants.{row}
 use Rattle.reader.proofs.formulas.read_formulas.Goals as goal
 
@@ -70,5 +68,9 @@ loop-f-preserved c =
 pub returns : goal.returns
 returns c =
     let l = c.loop-f in
-    let a = c.args in record { permissions_value = reached-all (row a.classes) a.s.now (4 + a.permissions) a.at l.p _ _ l.f (omega arith) l.invariant.6
-          (ap (formulas_of l.nodes l.lengths) (let z : 4 + a.permissions ≡ l.f = omega arith in z)); pos_bound = search rules; count_is_place = l.invariant.7 }
+    let a = c.args in record {
+      permissions_value = reached-all (row a.classes) a.s.now (4 + a.permissions) a.at l.p _ _ l.f (omega arith) l.invariant.6
+          (ap (formulas_of l.nodes l.lengths) (let z : 4 + a.permissions ≡ l.f = omega arith in z));
+      pos_bound = search rules;
+      count_is_place = l.invariant.7;
+    }

@@ -1,22 +1,16 @@
 -- `reader::formulas::read_formulas` meets its contract. The loop's invariant: the arrays hold the formulas that were read so far, each has at most
 -- 64 nodes and took at most 1288 bits, and reading them all goes on at the cursor reached. The measure is how many formulas are left.
 -- Assumes nothing.
-use mathlib.Core.Path.{◌≡◌, ap, sym, ◌∙◌}
+use mathlib.Core.Path.{◌≡◌}
 use mathlib.Core.List.{List}
 use Prim.Native.Nat.{ℕ, ◌+◌, ◌-◌, ◌*◌, ◌≤◌, ◌<◌}
-use native.Mathlib.Decide.{dec_lt}
-use native.Mathlib.Omega.{arith}
-use borrow.Author.Rules.{rules}
-use lib.ListN.{length, get_or, set}
-use lib.Seq.{get_or-set_same, get_or-set_other}
+use lib.ListN.{length, get_or}
 use Rattle.format.specs.Format.{Format}
-use Rattle.format.specs.Steps.{from, res_of, CountIsPlace}
-use Rattle.format.proofs.Chain.{chain-pair, chain-via, res-field}
+use Rattle.format.specs.Steps.{CountIsPlace}
 use Rattle.policy.specs.File.{formula_format}
-use Rattle.policy.specs.Rules.{lists_of, nodes_of, formulas_of}
+use Rattle.policy.specs.Rules.{lists_of, formulas_of}
 use Rattle.policy.specs.declared.Classes.{Classes}
-use Rattle.policy.proofs.Laws.{formulas-none, formulas-more, formulas-length}
-use Rattle.reader_head.proofs.Reached.{Reached, reached-none, reached-more, reached-all}
+use Rattle.reader_head.proofs.Reached.{Reached}
 use Rattle.reader.proofs.formulas.read_formulas.Given as goal
 
 abbrev pub row : Classes → List (List ℕ) → Format (List ℕ)

@@ -3,19 +3,17 @@
 -- nodes are left. Assumes nothing.
 use mathlib.Core.Path.{◌≡◌, refl, ap, sym, ◌∙◌}
 use mathlib.Core.List.{List}
-use Prim.Native.Nat.{ℕ, ◌+◌, ◌-◌, ◌*◌, ◌≤◌}
+use Prim.Native.Nat.{ℕ, ◌+◌, ◌*◌}
 use native.Mathlib.Omega.{arith}
 use borrow.Author.Rules.{rules}
-use lib.ListN.{length, set}
+use lib.ListN.{set}
 use lib.Seq.{get_or-set_other}
-use Rattle.format.specs.Format.{Format}
-use Rattle.format.specs.Steps.{from, res_of, CountIsPlace}
+use Rattle.format.specs.Steps.{from, res_of}
 use Rattle.policy.specs.File.{node_format}
 use Rattle.policy.specs.Rules.{lists_of, nodes_of}
-use Rattle.policy.specs.declared.Classes.{Classes}
 use Rattle.policy.proofs.Laws.{nodes-none, nodes-more, nodes-length}
 use Rattle.reader.specs.Parts.{Earlier}
-use Rattle.reader_head.proofs.Reached.{Reached, reached-none, reached-more, reached-all}
+use Rattle.reader_head.proofs.Reached.{reached-none, reached-more, reached-all}
 use Rattle.reader.proofs.formulas.read_nodes.Invariants.{row}
 use Rattle.reader.proofs.formulas.read_nodes.Goals as goal
 
@@ -53,5 +51,10 @@ loop-i-preserved c =
 pub returns : goal.returns
 returns c =
     let l = c.loop-i in
-    let a = c.args in record { n_after = reached-all (row a.classes a.f) a.s.now a.n a.at l.p _ _ l.i (omega arith) l.invariant.4
-          (ap (nodes_of l.nodes a.f) (let z : a.n ≡ l.i = omega arith in z)); earlier = l.invariant.3; pos_bound = search rules; count_is_place = l.invariant.5 }
+    let a = c.args in record {
+      n_after = reached-all (row a.classes a.f) a.s.now a.n a.at l.p _ _ l.i (omega arith) l.invariant.4
+          (ap (nodes_of l.nodes a.f) (let z : a.n ≡ l.i = omega arith in z));
+      earlier = l.invariant.3;
+      pos_bound = search rules;
+      count_is_place = l.invariant.5;
+    }

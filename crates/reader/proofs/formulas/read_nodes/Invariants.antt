@@ -1,21 +1,17 @@
 -- `reader::formulas::read_nodes` meets its contract. The loop's invariant: the formula's places hold the nodes that were read so far, the places
 -- before them are as they were, each node took at most 20 bits, and reading them all goes on at the cursor reached. The measure is how many
 -- nodes are left. Assumes nothing.
-use mathlib.Core.Path.{◌≡◌, refl, ap, sym, ◌∙◌}
+use mathlib.Core.Path.{◌≡◌}
 use mathlib.Core.List.{List}
 use Prim.Native.Nat.{ℕ, ◌+◌, ◌-◌, ◌*◌, ◌≤◌}
-use native.Mathlib.Omega.{arith}
-use borrow.Author.Rules.{rules}
-use lib.ListN.{length, set}
-use lib.Seq.{get_or-set_other}
+use lib.ListN.{length}
 use Rattle.format.specs.Format.{Format}
-use Rattle.format.specs.Steps.{from, res_of, CountIsPlace}
+use Rattle.format.specs.Steps.{CountIsPlace}
 use Rattle.policy.specs.File.{node_format}
 use Rattle.policy.specs.Rules.{lists_of, nodes_of}
 use Rattle.policy.specs.declared.Classes.{Classes}
-use Rattle.policy.proofs.Laws.{nodes-none, nodes-more, nodes-length}
 use Rattle.reader.specs.Parts.{Earlier}
-use Rattle.reader_head.proofs.Reached.{Reached, reached-none, reached-more, reached-all}
+use Rattle.reader_head.proofs.Reached.{Reached}
 use Rattle.reader.proofs.formulas.read_nodes.Given as goal
 
 abbrev pub row : Classes → ℕ → List ℕ → Format ℕ

@@ -1,6 +1,5 @@
 -- `reader::values::read_session` meets its contract: the user and the value one after the other are the format's. Assumes nothing.
 use native.Mathlib.Omega.{arith}
-use borrow.Author.Rules.{rules}
 use Rattle.format.proofs.Chain.{chain-pair, chain-via, res-field}
 use Rattle.policy.specs.File.{session_format}
 use Rattle.reader.specs.Parts.{session_of}

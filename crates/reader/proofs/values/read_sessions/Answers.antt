@@ -1,20 +1,13 @@
 -- `reader::values::read_sessions` meets its contract. The loop's invariant: the arrays hold the sessions that were read so far, each took at most
 -- 12 bits, and reading them all goes on at the cursor reached. The measure is how many sessions are left. Assumes nothing.
 use mathlib.Core.Path.{◌≡◌, ap}
-use mathlib.Core.List.{List}
-use Prim.Native.Nat.{ℕ, ◌+◌, ◌-◌, ◌*◌, ◌≤◌}
+use Prim.Native.Nat.{ℕ}
 use native.Mathlib.Omega.{arith}
 use borrow.Author.Rules.{rules}
-use lib.ListN.{length}
-use Rattle.format.specs.Format.{Format}
-use Rattle.format.specs.Steps.{CountIsPlace}
-use Rattle.policy.specs.Policy.{Session}
-use Rattle.policy.specs.File.{session_format}
-use Rattle.policy.specs.Rules.{attrs_of, sessions_of}
-use Rattle.policy.specs.declared.Class.{Class}
+use Rattle.policy.specs.Rules.{sessions_of}
 use Rattle.policy.proofs.Laws.{sessions-none, sessions-more}
 use Rattle.reader.specs.Parts.{session_of}
-use Rattle.reader_head.proofs.Reached.{Reached, reached-none, reached-more, reached-all}
+use Rattle.reader_head.proofs.Reached.{reached-none, reached-more, reached-all}
 use Rattle.reader.proofs.values.read_sessions.Invariants.{row}
 use Rattle.reader.proofs.values.read_sessions.Goals as goal
 
@@ -48,5 +41,9 @@ loop-i-preserved c =
 pub returns : goal.returns
 returns c =
     let l = c.loop-i in
-    let a = c.args in record { sessions_value = reached-all (row a.users a.class) a.s.now a.n a.at l.p _ _ l.i (omega arith) l.invariant.5
-          (ap (λ (k : ℕ). sessions_of record { count = k; users = l.list; values = l.values }) (let z : a.n ≡ l.i = omega arith in z)); pos_bound = search rules; count_is_place = l.invariant.6 }
+    let a = c.args in record {
+      sessions_value = reached-all (row a.users a.class) a.s.now a.n a.at l.p _ _ l.i (omega arith) l.invariant.5
+          (ap (λ (k : ℕ). sessions_of record { count = k; users = l.list; values = l.values }) (let z : a.n ≡ l.i = omega arith in z));
+      pos_bound = search rules;
+      count_is_place = l.invariant.6;
+    }

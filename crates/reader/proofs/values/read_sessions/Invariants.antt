@@ -1,10 +1,8 @@
 -- `reader::values::read_sessions` meets its contract. The loop's invariant: the arrays hold the sessions that were read so far, each took at most
 -- 12 bits, and reading them all goes on at the cursor reached. The measure is how many sessions are left. Assumes nothing.
-use mathlib.Core.Path.{◌≡◌, ap}
+use mathlib.Core.Path.{◌≡◌}
 use mathlib.Core.List.{List}
 use Prim.Native.Nat.{ℕ, ◌+◌, ◌-◌, ◌*◌, ◌≤◌}
-use native.Mathlib.Omega.{arith}
-use borrow.Author.Rules.{rules}
 use lib.ListN.{length}
 use Rattle.format.specs.Format.{Format}
 use Rattle.format.specs.Steps.{CountIsPlace}
@@ -12,9 +10,7 @@ use Rattle.policy.specs.Policy.{Session}
 use Rattle.policy.specs.File.{session_format}
 use Rattle.policy.specs.Rules.{attrs_of, sessions_of}
 use Rattle.policy.specs.declared.Class.{Class}
-use Rattle.policy.proofs.Laws.{sessions-none, sessions-more}
-use Rattle.reader.specs.Parts.{session_of}
-use Rattle.reader_head.proofs.Reached.{Reached, reached-none, reached-more, reached-all}
+use Rattle.reader_head.proofs.Reached.{Reached}
 use Rattle.reader.proofs.values.read_sessions.Given as goal
 
 abbrev pub row : ℕ → Class → List Session → Format Session

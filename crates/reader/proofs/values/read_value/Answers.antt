@@ -2,18 +2,17 @@
 -- the value that the format reads, whatever the lists, and both fit 8 bits. The measure is how many attributes are left. Assumes
 -- nothing.
 use mathlib.Core.Path.{◌≡◌, ap, ◌∙◌}
-use mathlib.Core.List.{[]}
-use Prim.Native.Nat.{ℕ, ◌+◌, ◌-◌, ◌*◌, ◌%◌, ◌^◌, ◌≤◌}
+use Prim.Native.Nat.{ℕ, ◌+◌, ◌*◌, ◌%◌, ◌^◌, ◌≤◌}
 use native.Mathlib.Nat.{mod-eq_of_lt}
 use native.Mathlib.Omega.{arith}
 use borrow.Author.Rules.{rules}
 use Rattle.format.specs.Format.{Format}
-use Rattle.format.specs.Steps.{from, judged, CountIsPlace}
+use Rattle.format.specs.Steps.{from}
 use Rattle.format.proofs.Chain.{res-bits}
 use Rattle.format.proofs.Fault.{judged-count}
 use Rattle.policy.specs.Rules.{attr_at}
 use Rattle.policy.proofs.Laws.{without_lists, width-any, value-any}
-use Rattle.reader.proofs.Value.{Partly, partly_none, partly-room, partly_more, partly-below, partly-all}
+use Rattle.reader.proofs.Value.{partly_none, partly-room, partly_more, partly-below, partly-all}
 use Rattle.reader.proofs.values.read_value.Goals as goal
 
 pub loop-i-init : goal.loop-i-init
@@ -72,8 +71,12 @@ loop-i-preserved c =
 pub returns : goal.returns
 returns c =
     let l = c.loop-i in
-    let a = c.args in record { value_value = partly-all a.s.now (without_lists a.class) a.at l.p l.v l.i (omega arith) l.invariant.2 l.invariant.3
-          ∙ ap (λ (f : Format ℕ). from a.at (f.read a.s.now)) (value-any a.class); pos_bound = (
-          omega (arith, l.invariant.2.place),
-          partly-below a.s.now (without_lists a.class) a.at l.p l.v l.i (omega arith) l.invariant.2,
-        ); count_is_place = l.invariant.3 }
+    let a = c.args in record {
+      value_value = partly-all a.s.now (without_lists a.class) a.at l.p l.v l.i (omega arith) l.invariant.2 l.invariant.3
+          ∙ ap (λ (f : Format ℕ). from a.at (f.read a.s.now)) (value-any a.class);
+      pos_bound = (
+        omega (arith, l.invariant.2.place),
+        partly-below a.s.now (without_lists a.class) a.at l.p l.v l.i (omega arith) l.invariant.2,
+      );
+      count_is_place = l.invariant.3;
+    }

@@ -1,19 +1,10 @@
 -- `reader::values::read_value` meets its contract. The loop's invariant: the values of the attributes so far, with what is read for the others, are
 -- the value that the format reads, whatever the lists, and both fit 8 bits. The measure is how many attributes are left. Assumes
 -- nothing.
-use mathlib.Core.Path.{◌≡◌, ap, ◌∙◌}
 use mathlib.Core.List.{[]}
-use Prim.Native.Nat.{ℕ, ◌+◌, ◌-◌, ◌*◌, ◌%◌, ◌^◌, ◌≤◌}
-use native.Mathlib.Nat.{mod-eq_of_lt}
-use native.Mathlib.Omega.{arith}
-use borrow.Author.Rules.{rules}
-use Rattle.format.specs.Format.{Format}
-use Rattle.format.specs.Steps.{from, judged, CountIsPlace}
-use Rattle.format.proofs.Chain.{res-bits}
-use Rattle.format.proofs.Fault.{judged-count}
-use Rattle.policy.specs.Rules.{attr_at}
-use Rattle.policy.proofs.Laws.{without_lists, width-any, value-any}
-use Rattle.reader.proofs.Value.{Partly, partly_none, partly-room, partly_more, partly-below, partly-all}
+use Prim.Native.Nat.{◌-◌, ◌≤◌}
+use Rattle.format.specs.Steps.{CountIsPlace}
+use Rattle.reader.proofs.Value.{Partly}
 use Rattle.reader.proofs.values.read_value.Given as goal
 
 abbrev pub invariant-loop-i : goal.invariant-loop-i

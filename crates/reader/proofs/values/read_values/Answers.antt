@@ -1,18 +1,12 @@
 -- `reader::values::read_values` meets its contract. The loop's invariant: the array holds the values that were read so far, each took at most 8 bits,
 -- and reading them all goes on at the cursor reached. The measure is how many values are left. Assumes nothing.
 use mathlib.Core.Path.{◌≡◌, ap}
-use mathlib.Core.List.{List}
-use Prim.Native.Nat.{ℕ, ◌+◌, ◌-◌, ◌*◌, ◌≤◌}
+use Prim.Native.Nat.{ℕ}
 use native.Mathlib.Omega.{arith}
 use borrow.Author.Rules.{rules}
-use lib.ListN.{length}
-use Rattle.format.specs.Format.{Format}
-use Rattle.format.specs.Steps.{CountIsPlace}
-use Rattle.policy.specs.File.{value_format}
-use Rattle.policy.specs.Rules.{attrs_of, values_of}
-use Rattle.policy.specs.declared.Class.{Class}
+use Rattle.policy.specs.Rules.{values_of}
 use Rattle.policy.proofs.Laws.{values-none, values-more}
-use Rattle.reader_head.proofs.Reached.{Reached, reached-none, reached-more, reached-all}
+use Rattle.reader_head.proofs.Reached.{reached-none, reached-more, reached-all}
 use Rattle.reader.proofs.values.read_values.Invariants.{row}
 use Rattle.reader.proofs.values.read_values.Goals as goal
 
@@ -37,5 +31,9 @@ loop-i-preserved c =
 pub returns : goal.returns
 returns c =
     let l = c.loop-i in
-    let a = c.args in record { values_value = reached-all (row a.class) a.s.now a.n a.at l.p _ _ l.i (omega arith) l.invariant.4
-          (ap (λ (k : ℕ). values_of record { count = k; values = l.list }) (let z : a.n ≡ l.i = omega arith in z)); pos_bound = search rules; count_is_place = l.invariant.5 }
+    let a = c.args in record {
+      values_value = reached-all (row a.class) a.s.now a.n a.at l.p _ _ l.i (omega arith) l.invariant.4
+          (ap (λ (k : ℕ). values_of record { count = k; values = l.list }) (let z : a.n ≡ l.i = omega arith in z));
+      pos_bound = search rules;
+      count_is_place = l.invariant.5;
+    }

@@ -1,18 +1,15 @@
 -- `reader::values::read_values` meets its contract. The loop's invariant: the array holds the values that were read so far, each took at most 8 bits,
 -- and reading them all goes on at the cursor reached. The measure is how many values are left. Assumes nothing.
-use mathlib.Core.Path.{◌≡◌, ap}
+use mathlib.Core.Path.{◌≡◌}
 use mathlib.Core.List.{List}
 use Prim.Native.Nat.{ℕ, ◌+◌, ◌-◌, ◌*◌, ◌≤◌}
-use native.Mathlib.Omega.{arith}
-use borrow.Author.Rules.{rules}
 use lib.ListN.{length}
 use Rattle.format.specs.Format.{Format}
 use Rattle.format.specs.Steps.{CountIsPlace}
 use Rattle.policy.specs.File.{value_format}
 use Rattle.policy.specs.Rules.{attrs_of, values_of}
 use Rattle.policy.specs.declared.Class.{Class}
-use Rattle.policy.proofs.Laws.{values-none, values-more}
-use Rattle.reader_head.proofs.Reached.{Reached, reached-none, reached-more, reached-all}
+use Rattle.reader_head.proofs.Reached.{Reached}
 use Rattle.reader.proofs.values.read_values.Given as goal
 
 abbrev pub row : Class → List ℕ → Format ℕ

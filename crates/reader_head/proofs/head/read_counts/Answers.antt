@@ -1,7 +1,6 @@
 -- `reader_head::head::read_counts` meets its contract: the counts and the spare bits one after another are the format's. Assumes nothing.
 use Prim.Native.Nat.{◌+◌, ◌≤◌}
 use native.Mathlib.Omega.{arith}
-use borrow.Author.Rules.{rules}
 use Rattle.format.proofs.Chain.{chain-pair, chain-via, chain-zeros, res-field}
 use Rattle.policy.specs.File.{count, head_format}
 use Rattle.reader_head.specs.Parts.{head_of}
@@ -41,7 +40,8 @@ unfolding head_format count head_of
 returns c =
     let place : c.read_field-d.result.at.pos ≤ c.args.at.pos + 17 =
     omega arith in
-    let s = c.args.s.now in record { result_value = chain-via _ _ _ s _ _ _
+    let s = c.args.s.now in record {
+      result_value = chain-via _ _ _ s _ _ _
           (chain-zeros _ 7 3 s _ _ _ _ _
           (chain-pair _ _ s _ _ _ _ _ (res-field _ _ 2 s _ _ (omega arith) c.read_field-a.ensures.value)
           (chain-pair _ _ s _ _ _ _ _ (res-field _ _ 2 s _ _ (omega arith) c.read_field-b.ensures.value)
@@ -49,13 +49,17 @@ returns c =
           (chain-pair _ _ s _ _ _ _ _ (res-field _ _ 2 s _ _ (omega arith) c.read_field-d.ensures.value)
           (chain-pair _ _ s _ _ _ _ _ (res-field _ _ 2 s _ _ (omega arith) c.read_field-e.ensures.value)
           (chain-pair _ _ s _ _ _ _ _ (res-field _ _ 2 s _ _ (omega arith) c.read_field-f.ensures.value) (res-field _ _ 2 s _ _ (omega arith) c.read_field-g.ensures.value)))))))
-          (res-field _ _ 3 s _ _ (omega arith) c.read_field-z.ensures.value)); ranges = record {
-          user = omega (arith, c.read_field-a.ensures.near.below);
-          session = omega (arith, c.read_field-b.ensures.near.below);
-          item = omega (arith, c.read_field-c.ensures.near.below);
-          users = omega (arith, c.read_field-d.ensures.near.below);
-          sessions = omega (arith, c.read_field-e.ensures.near.below);
-          items = omega (arith, c.read_field-f.ensures.near.below);
-          permissions = omega (arith, c.read_field-g.ensures.near.below);
-        }; pos_bound = omega
-              (arith, place, c.read_field-e.ensures.near.place, c.read_field-f.ensures.near.place, c.read_field-g.ensures.near.place, c.read_field-z.ensures.near.place); count_is_place = c.read_field-z.ensures.count_is_place }
+          (res-field _ _ 3 s _ _ (omega arith) c.read_field-z.ensures.value));
+      ranges = record {
+        user = omega (arith, c.read_field-a.ensures.near.below);
+        session = omega (arith, c.read_field-b.ensures.near.below);
+        item = omega (arith, c.read_field-c.ensures.near.below);
+        users = omega (arith, c.read_field-d.ensures.near.below);
+        sessions = omega (arith, c.read_field-e.ensures.near.below);
+        items = omega (arith, c.read_field-f.ensures.near.below);
+        permissions = omega (arith, c.read_field-g.ensures.near.below);
+      };
+      pos_bound = omega
+          (arith, place, c.read_field-e.ensures.near.place, c.read_field-f.ensures.near.place, c.read_field-g.ensures.near.place, c.read_field-z.ensures.near.place);
+      count_is_place = c.read_field-z.ensures.count_is_place;
+    }

@@ -1,8 +1,7 @@
 -- `reader_head::lists::read_attr` meets its contract: the four fields one after another are the format's. Assumes nothing.
 use mathlib.Core.Path.{◌≡◌, ap, ◌∙◌}
-use Prim.Native.Nat.{ℕ, ◌+◌}
+use Prim.Native.Nat.{◌+◌}
 use native.Mathlib.Omega.{arith}
-use borrow.Author.Rules.{rules}
 use Rattle.format.specs.Format.{within, field}
 use Rattle.format.specs.Steps.{from, res_of, CountIsPlace}
 use Rattle.format.specs.declared.Cursor.{Cursor}
@@ -36,8 +35,12 @@ returns c =
     rw (← c.largest-end.ensures.value) (res-field _ _ 4 s _ _ (omega arith) c.read_field-n.ensures.value) in
     let listed : res_of c.judged-listed.result list ≡ from c.read_field-n.result.at ((field 5 (size_fits a.known.now size) 18).read s) =
     ap (λ (z : Cursor). res_of z list) c.judged-listed.ensures
-    ∙ chain-field 5 _ 18 s _ _ list _ (res-bits s _ 5 _ c.take-l.ensures.value) c.size_fits.ensures (omega arith) in record { result_value = chain-via _ _ _ s _ _ _
+    ∙ chain-field 5 _ 18 s _ _ list _ (res-bits s _ 5 _ c.take-l.ensures.value) c.size_fits.ensures (omega arith) in record {
+      result_value = chain-via _ _ _ s _ _ _
           (chain-zeros _ 1 3 s _ _ _ _ _
           (chain-pair _ _ s _ _ _ _ _ (res-field _ _ 4 s _ _ (omega arith) c.read_field-k.ensures.value) (chain-pair _ _ s _ _ _ _ _ sized listed))
-          (res-field _ _ 3 s _ _ (omega arith) c.read_field-z.ensures.value)); pos_bound = omega
-            (arith, c.read_field-z.ensures.near.place, place, c.take-l.ensures.near.place, c.read_field-n.ensures.near.place, c.read_field-k.ensures.near.place); count_is_place = c.read_field-z.ensures.count_is_place }
+          (res-field _ _ 3 s _ _ (omega arith) c.read_field-z.ensures.value));
+      pos_bound = omega
+          (arith, c.read_field-z.ensures.near.place, place, c.take-l.ensures.near.place, c.read_field-n.ensures.near.place, c.read_field-k.ensures.near.place);
+      count_is_place = c.read_field-z.ensures.count_is_place;
+    }

@@ -3,19 +3,17 @@
 -- left. Assumes nothing.
 use mathlib.Core.Path.{◌≡◌, refl, sym, ap, ◌∙◌}
 use mathlib.Core.List.{List}
-use Prim.Native.Nat.{ℕ, ◌+◌, ◌-◌, ◌*◌, ◌≤◌}
+use Prim.Native.Nat.{ℕ}
 use native.Mathlib.Omega.{arith}
 use borrow.Author.Rules.{rules}
-use lib.ListN.{length, set}
-use Rattle.format.specs.Format.{Format}
-use Rattle.format.specs.Steps.{from, res_of, CountIsPlace}
-use Rattle.policy.specs.Policy.{Attr}
+use lib.ListN.{set}
+use Rattle.format.specs.Steps.{from, res_of}
 use Rattle.policy.specs.File.{sizes_after, attr_format}
 use Rattle.policy.specs.Rules.{attrs_of}
 use Rattle.policy.specs.declared.Class.{Class}
 use Rattle.policy.proofs.Laws.{cut, attrs-none, attrs-more, sizes-none, sizes-more}
 use Rattle.reader_head.specs.Parts.{attr_of}
-use Rattle.reader_head.proofs.Reached.{Reached, reached-none, reached-more, reached-all}
+use Rattle.reader_head.proofs.Reached.{reached-none, reached-more, reached-all}
 use Rattle.reader_head.proofs.lists.read_attrs.Invariants.{row}
 use Rattle.reader_head.proofs.lists.read_attrs.Goals as goal
 

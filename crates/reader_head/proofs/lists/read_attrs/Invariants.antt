@@ -1,21 +1,16 @@
 -- `reader_head::lists::read_attrs` meets its contract. The loop's invariant: the arrays hold the attributes that were read so far, the sizes of the lists
 -- are those after them, each took at most 12 bits, and reading them all goes on at the cursor reached. The measure is how many attributes are
 -- left. Assumes nothing.
-use mathlib.Core.Path.{◌≡◌, refl, sym, ap, ◌∙◌}
+use mathlib.Core.Path.{◌≡◌}
 use mathlib.Core.List.{List}
 use Prim.Native.Nat.{ℕ, ◌+◌, ◌-◌, ◌*◌, ◌≤◌}
-use native.Mathlib.Omega.{arith}
-use borrow.Author.Rules.{rules}
-use lib.ListN.{length, set}
+use lib.ListN.{length}
 use Rattle.format.specs.Format.{Format}
-use Rattle.format.specs.Steps.{from, res_of, CountIsPlace}
+use Rattle.format.specs.Steps.{CountIsPlace}
 use Rattle.policy.specs.Policy.{Attr}
 use Rattle.policy.specs.File.{sizes_after, attr_format}
 use Rattle.policy.specs.Rules.{attrs_of}
-use Rattle.policy.specs.declared.Class.{Class}
-use Rattle.policy.proofs.Laws.{cut, attrs-none, attrs-more, sizes-none, sizes-more}
-use Rattle.reader_head.specs.Parts.{attr_of}
-use Rattle.reader_head.proofs.Reached.{Reached, reached-none, reached-more, reached-all}
+use Rattle.reader_head.proofs.Reached.{Reached}
 use Rattle.reader_head.proofs.lists.read_attrs.Given as goal
 
 abbrev pub row : List ℕ → List Attr → Format Attr

@@ -5,7 +5,6 @@ use mathlib.Core.List.{List}
 use Prim.Native.Nat.{ℕ, ◌<◌}
 use native.Mathlib.Decide.{dec_lt}
 use native.Mathlib.Omega.{arith}
-use borrow.Author.Rules.{rules}
 use Rattle.format.specs.Format.{Res, ok, bad}
 use Rattle.format.specs.Steps.{from, res_of}
 use Rattle.format.specs.declared.Cursor.{Cursor}

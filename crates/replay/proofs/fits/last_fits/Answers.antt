@@ -2,7 +2,6 @@
 use mathlib.Core.Path.{◌∙◌}
 use native.Mathlib.Omega.{arith}
 use Rattle.replay.proofs.Laws.{none-fits, last-is}
-use borrow.Author.Rules.{rules}
 use Rattle.replay.proofs.fits.last_fits.Goals as goal
 
 pub returns-then-rows-gt0 : goal.returns-then-rows-gt0

@@ -4,7 +4,6 @@ use native.Mathlib.Omega.{arith}
 use borrow.Author.Tests.{eq-eqb, ne_eqb}
 use Rattle.live.proofs.Laws.{held, denied}
 use Rattle.replay.proofs.Laws.{row_fits}
-use borrow.Author.Rules.{rules}
 use Rattle.replay.proofs.fits.step_fits.Goals as goal
 
 pub returns-then-r-ne-ACCESS : goal.returns-then-r-ne-ACCESS

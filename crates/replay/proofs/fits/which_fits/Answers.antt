@@ -2,7 +2,6 @@
 use borrow.Author.Tests.{eq-eqb, ne_eqb}
 use Rattle.replay.specs.Question.{which_of}
 use Rattle.replay.specs.Replay.{which_fits}
-use borrow.Author.Rules.{rules}
 use Rattle.replay.proofs.fits.which_fits.Goals as goal
 
 pub returns-then-q-eq-ITEM : goal.returns-then-q-eq-ITEM

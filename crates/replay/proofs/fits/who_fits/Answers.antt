@@ -1,7 +1,6 @@
 -- `replay::fits::who_fits` meets its contract: the kind tells what is tested, and a user's session is read from its cell.
 use mathlib.Core.Path.{refl, sym, ◌∙◌}
 use Rattle.replay.proofs.Laws.{who-session, who-user, who-anyone, session-fits, user-fits, anyone-fits, held_fits}
-use borrow.Author.Rules.{rules}
 use Rattle.replay.proofs.fits.who_fits.Goals as goal
 
 pub returns-then-q-eq-SESSION : goal.returns-then-q-eq-SESSION

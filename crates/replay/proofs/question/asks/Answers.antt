@@ -5,7 +5,6 @@ use borrow.Author.Tests.{eq-eqb, ne_eqb}
 use lib.ListN.{length}
 use Rattle.live.proofs.Laws.{held, denied}
 use Rattle.replay.proofs.Laws.{asked}
-use borrow.Author.Rules.{rules}
 use Rattle.replay.proofs.question.asks.Goals as goal
 
 pub returns-then-bytes-ne-BYTES : goal.returns-then-bytes-ne-BYTES

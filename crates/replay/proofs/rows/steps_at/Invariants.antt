@@ -1,15 +1,12 @@
 -- `replay::rows::steps_at` meets its contract. The loop's invariant: all rows from the lent state come to what those from i on come to from the
 -- state now, and the slices are as long as they were. The measure is what is left of the rows.
-use mathlib.Core.Path.{◌≡◌, sym, ap, ◌∙◌}
+use mathlib.Core.Path.{◌≡◌}
 use Prim.Native.Nat.{◌-◌, ◌≤◌}
-use native.Mathlib.Omega.{arith}
 use lib.ListN.{length, drop}
 use Rattle.policy.specs.Rules.{policy_of}
 use Rattle.allowed.specs.Allowed.{model_of}
-use Rattle.live.specs.Lent.{lent_as, refusal_of}
+use Rattle.live.specs.Lent.{lent_as}
 use Rattle.replay.specs.Rows.{rows_in}
-use Rattle.replay.proofs.Laws.{rows-further, rows-stop, rows_all}
-use borrow.Author.Rules.{rules}
 use Rattle.replay.proofs.rows.steps_at.Given as goal
 
 abbrev pub invariant-loop-i : goal.invariant-loop-i

@@ -1,13 +1,10 @@
 -- `starting::put::put_items` meets its contract. The loop's invariant: the cells of the first k items stand over the front of the
 -- cells that were lent. The measure is what is left of the count.
-use mathlib.Core.Path.{◌≡◌, ap, ◌∙◌}
-use Prim.Native.Nat.{ℕ, ◌-◌, ◌≤◌}
-use native.Mathlib.Omega.{arith}
+use mathlib.Core.Path.{◌≡◌}
+use Prim.Native.Nat.{◌-◌, ◌≤◌}
 use lib.ListN.{length}
 use Rattle.policy.specs.Rules.{values_of}
 use Rattle.starting.specs.Start.{over, item_cells}
-use Rattle.starting.proofs.StartLaws.{over_none, over-more, item-cells-none, item-cells-more, item-cells-length}
-use borrow.Author.Rules.{rules}
 use Rattle.starting.proofs.put.put_items.Given as goal
 
 abbrev pub invariant-loop-k : goal.invariant-loop-k

@@ -1,13 +1,10 @@
 -- `starting::put::put_sessions` meets its contract. The loop's invariant: the cells of the first i sessions stand over the front of the
 -- cells that were lent. The measure is what is left of the count.
-use mathlib.Core.Path.{◌≡◌, ap, ◌∙◌}
-use Prim.Native.Nat.{ℕ, ◌-◌, ◌≤◌}
-use native.Mathlib.Omega.{arith}
+use mathlib.Core.Path.{◌≡◌}
+use Prim.Native.Nat.{◌-◌, ◌≤◌}
 use lib.ListN.{length}
 use Rattle.policy.specs.Rules.{sessions_of}
 use Rattle.starting.specs.Start.{over, session_cells}
-use Rattle.starting.proofs.StartLaws.{over_none, over-more, session-cells-none, session-cells-more, session-cells-length}
-use borrow.Author.Rules.{rules}
 use Rattle.starting.proofs.put.put_sessions.Given as goal
 
 abbrev pub invariant-loop-i : goal.invariant-loop-i

@@ -1,6 +1,5 @@
 -- `writer::formulas::node_at` meets its contract: past the end `get_or` gives 0.
 use mathlib.Core.Path.{sym}
-use native.Mathlib.Omega.{arith}
 use lib.ListN.{get_or-eq_default}
 use Rattle.writer.proofs.formulas.node_at.Goals as goal
 

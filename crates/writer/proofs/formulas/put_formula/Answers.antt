@@ -9,5 +9,8 @@ use Rattle.writer.proofs.formulas.put_formula.Goals as goal
 pub returns : goal.returns
 unfolding formula_format
 returns c =
-    let a = c.args in record { stores = stores-via _ _ _ (nodes_of a.nodes.now a.f a.n)
-          (rw (nodes-length a.nodes.now a.f a.n) (stores-pair _ _ c.put_range-a.ensures.stores c.put_nodes.ensures.stores)); pos_bound = omega arith }
+    let a = c.args in record {
+      stores = stores-via _ _ _ (nodes_of a.nodes.now a.f a.n)
+          (rw (nodes-length a.nodes.now a.f a.n) (stores-pair _ _ c.put_range-a.ensures.stores c.put_nodes.ensures.stores));
+      pos_bound = omega arith;
+    }

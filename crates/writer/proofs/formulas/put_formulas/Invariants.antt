@@ -1,15 +1,12 @@
 -- `writer::formulas::put_formulas` meets its contract. The loop's invariant: the first f formulas are stored, in no more than 5108 bits each,
 -- and the bytes are as many as before. The measure is how many formulas are left.
-use mathlib.Core.Path.{◌≡◌, refl}
+use mathlib.Core.Path.{◌≡◌}
 use Prim.Native.Nat.{◌+◌, ◌*◌, ◌-◌, ◌≤◌}
-use native.Mathlib.Omega.{arith}
 use lib.ListN.{length}
 use Rattle.format.specs.Format.{rows}
 use Rattle.format.specs.Steps.{Stores}
-use Rattle.format.proofs.Store.{stores-rows-begin, stores-rows-turn}
 use Rattle.policy.specs.File.{formula_format}
 use Rattle.policy.specs.Rules.{lists_of, formulas_of}
-use Rattle.policy.proofs.Laws.{formulas-none, formulas-next, formulas-length}
 use Rattle.writer.proofs.formulas.put_formulas.Given as goal
 
 abbrev pub invariant-loop-f : goal.invariant-loop-f

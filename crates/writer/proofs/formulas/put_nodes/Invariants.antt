@@ -1,15 +1,12 @@
 -- `writer::formulas::put_nodes` meets its contract. The loop's invariant: the first i nodes are stored, in no more than 20 bits each, and the
 -- bytes are as many as before. The measure is how many nodes are left.
-use mathlib.Core.Path.{◌≡◌, refl}
+use mathlib.Core.Path.{◌≡◌}
 use Prim.Native.Nat.{◌+◌, ◌*◌, ◌-◌, ◌≤◌}
-use native.Mathlib.Omega.{arith}
 use lib.ListN.{length}
 use Rattle.format.specs.Format.{rows}
 use Rattle.format.specs.Steps.{Stores}
-use Rattle.format.proofs.Store.{stores-rows-begin, stores-rows-turn}
 use Rattle.policy.specs.File.{node_format}
 use Rattle.policy.specs.Rules.{lists_of, nodes_of}
-use Rattle.policy.proofs.Laws.{nodes-none, nodes-next, nodes-length}
 use Rattle.writer.proofs.formulas.put_nodes.Given as goal
 
 abbrev pub invariant-loop-i : goal.invariant-loop-i

@@ -1,17 +1,13 @@
 -- `writer::values::put_value` meets its contract. The loop's invariant: whoever stores what is left by the attributes from i on has stored the
 -- whole value; `rest` is how wide those attributes are, each of the first i took no more than 255 bits, and the bytes are as many as before. It
 -- speaks of the attributes without their list numbers, which do not matter for values. The measure is how many attributes are left.
-use mathlib.Core.Path.{◌≡◌, refl, sym, ap, ◌∙◌}
+use mathlib.Core.Path.{◌≡◌}
 use mathlib.Core.List.{[]}
 use Prim.Native.Nat.{◌+◌, ◌*◌, ◌-◌, ◌≤◌}
-use borrow.Author.Rules.{rules}
-use native.Mathlib.Omega.{arith}
 use lib.ListN.{length}
-use Rattle.policy.specs.Policy.{Attr, width}
-use Rattle.policy.specs.Rules.{attr_at}
+use Rattle.policy.specs.Policy.{width}
 use Rattle.policy.specs.declared.Class.{Class}
-use Rattle.policy.proofs.Laws.{without_lists, width-any, value-any}
-use Rattle.writer.proofs.Value.{attrs_from, from_all, from-width, Onward, onward-begin, onward-turn, onward-end}
+use Rattle.writer.proofs.Value.{attrs_from, Onward}
 use Rattle.writer.proofs.values.put_value.Given as goal
 
 abbrev pub invariant-loop-i : goal.invariant-loop-i

@@ -1,16 +1,12 @@
 -- `writer::values::put_values` meets its contract. The loop's invariant: the first i values are stored, in no more than 65025 bits each, and
 -- the bytes are as many as before. The measure is how many values are left.
-use mathlib.Core.Path.{◌≡◌, refl}
+use mathlib.Core.Path.{◌≡◌}
 use Prim.Native.Nat.{◌+◌, ◌*◌, ◌-◌, ◌≤◌}
-use borrow.Author.Rules.{rules}
-use native.Mathlib.Omega.{arith}
 use lib.ListN.{length}
 use Rattle.format.specs.Format.{rows}
 use Rattle.format.specs.Steps.{Stores}
-use Rattle.format.proofs.Store.{stores-rows-begin, stores-rows-turn}
 use Rattle.policy.specs.File.{value_format}
 use Rattle.policy.specs.Rules.{attrs_of, values_of}
-use Rattle.policy.proofs.Laws.{values-none, values-next, values_length}
 use Rattle.writer.proofs.values.put_values.Given as goal
 
 abbrev pub invariant-loop-i : goal.invariant-loop-i

@@ -1,14 +1,8 @@
 -- `writer_head::lists::put_attrs` meets its contract. The loop's invariant: the first i attributes are stored, in no more than 12 bits each, the
 -- sizes of the lists are those after them, and the bytes and the sizes are as many as before. The measure is how many attributes are left.
 use mathlib.Core.Path.{◌≡◌, refl, sym}
-use Prim.Native.Nat.{◌+◌, ◌*◌, ◌-◌, ◌≤◌}
-use borrow.Author.Rules.{rules}
 use native.Mathlib.Omega.{arith}
-use lib.ListN.{length}
-use Rattle.format.specs.Format.{rows}
-use Rattle.format.specs.Steps.{Stores}
 use Rattle.format.proofs.Store.{stores-rows-begin, stores-rows-turn}
-use Rattle.policy.specs.File.{sizes_after, attr_format}
 use Rattle.policy.specs.Rules.{attr_at, attrs_of}
 use Rattle.policy.proofs.Laws.{cut, attrs-none, attrs-next, attrs-length, sizes-none, sizes-more}
 use Rattle.writer_head.proofs.lists.put_attrs.Goals as goal

@@ -11,5 +11,9 @@ use Rattle.writer_head.proofs.lists.put_class.Goals as goal
 
 pub returns : goal.returns
 unfolding class_format
-returns c = record { stores = rw c.judged.ensures
-          (stores-check _ _ 5 c.put_attrs-p.ensures.stores (ap (λ (w : ℕ). leb w 8) c.class_width.ensures.value) (omega arith)); known_after = c.put_attrs-p.ensures.known_after; pos_bound = omega (arith, ap (λ (p : Cursor). p.pos) c.judged.ensures, judged-pos c.put_attrs-p.result (leb c.class_width.result 8) 5) }
+returns c = record {
+  stores = rw c.judged.ensures
+      (stores-check _ _ 5 c.put_attrs-p.ensures.stores (ap (λ (w : ℕ). leb w 8) c.class_width.ensures.value) (omega arith));
+  known_after = c.put_attrs-p.ensures.known_after;
+  pos_bound = omega (arith, ap (λ (p : Cursor). p.pos) c.judged.ensures, judged-pos c.put_attrs-p.result (leb c.class_width.result 8) 5);
+}

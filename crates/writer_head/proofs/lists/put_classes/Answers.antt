@@ -1,5 +1,4 @@
 -- `writer_head::lists::put_classes` meets its contract: the three classes, one after another, the sizes of the lists going along.
-use borrow.Author.Rules.{rules}
 use native.Mathlib.Omega.{arith}
 use Rattle.format.proofs.Store.{stores-pair, stores-via}
 use Rattle.policy.specs.File.{no_sizes, lists_format}

@@ -1,6 +1,5 @@
 -- `replay::question::Question::of` meets its contract: the three bytes tell the parts.
 use Rattle.replay.specs.Question.{parts_of}
-use borrow.Author.Rules.{rules}
 use Rattle.replay.proofs.question.Question.of.Goals as goal
 
 pub returns : goal.returns

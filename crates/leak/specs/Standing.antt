@@ -1,6 +1,6 @@
 -- What the rows so far have brought about in a run, and what a leak needs of the searches.
 -- Assumes nothing.
-use Rattle.std.specs.Prelude.{◌≡◌, Bool, true, List, map, ℕ, ◌+◌, ◌-◌, ◌≤◌, ◌<◌, length, get_or}
+use Rattle.std.specs.Prelude.{◌≡◌, true, List, map, ℕ, ◌+◌, ◌-◌, ◌≤◌, ◌<◌, length, get_or}
 use Rattle.lanes.specs.Lanes.{lane_of}
 use Rattle.runs.specs.Model.{Model}
 use Rattle.runs.specs.State.{opened, State, session_at}

@@ -1,6 +1,6 @@
 -- Laws of the links of a queue: 256 of them, from place 256 * j on, are part j. In order: length and elements; one link stored; the
 -- links of a value stored; nothing linked; an array filled with a part.
-use mathlib.Core.Path.{◌≡◌, refl, sym, ap, ◌∙◌}
+use mathlib.Core.Path.{◌≡◌, sym, ap, ◌∙◌}
 use mathlib.Core.List.{List}
 use Prim.Native.Nat.{ℕ, ◌+◌, ◌*◌, ◌<◌}
 use native.Mathlib.Decide.{ℕ_discrete}

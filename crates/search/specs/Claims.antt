@@ -1,6 +1,6 @@
 -- What is proved of searches: they are over when nothing more comes in, and have found exactly the closure. The proofs are in proofs/Theorems.antt.
 -- Assumes nothing.
-use Rattle.std.specs.Prelude.{◌≡◌, Bool, true, ◌⊎◌, ◌↔◌, List, ℕ, ◌+◌, ◌≤◌, ◌<◌, length, get_or}
+use Rattle.std.specs.Prelude.{◌≡◌, Bool, true, ◌⊎◌, ◌↔◌, List, ℕ, ◌+◌, ◌<◌, length, get_or}
 use Rattle.lanes.specs.Lanes.{lane_of}
 use Rattle.runs.specs.Model.{Model}
 use Rattle.runs.specs.Edge.{opens_with, changes_to, makes_with, modifies_to}

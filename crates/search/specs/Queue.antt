@@ -1,7 +1,7 @@
 -- Values in the order found, as the program keeps them. Private vocabulary of the search: nothing here has to be believed, since what is found is
 -- tied to closures by the claims.
 -- Assumes nothing.
-use Rattle.std.specs.Prelude.{Bool, not, ◌&&◌, cond, List, ℕ, zero, suc, ◌+◌, ◌-◌, ◌%◌, ltb, leb, eqb, get_or, set, replicate}
+use Rattle.std.specs.Prelude.{Bool, not, ◌&&◌, cond, List, ℕ, zero, suc, ◌+◌, ◌-◌, ◌%◌, leb, eqb, get_or, set, replicate}
 use Rattle.lanes.specs.Lanes.{lane_of, added}
 use Rattle.search.specs.declared.queue.Found.{Found}
 

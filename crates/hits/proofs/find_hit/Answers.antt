@@ -2,14 +2,13 @@
 -- left of the places.
 use mathlib.Core.Path.{◌≡◌, refl, ap, ◌∙◌}
 use mathlib.Core.Bool.{Bool}
-use Prim.Native.Nat.{ℕ, ◌-◌, ◌≤◌, ◌<◌}
+use Prim.Native.Nat.{ℕ, ◌≤◌}
 use native.Mathlib.Omega.{arith}
 use borrow.Author.Count.{below_more}
-use lib.ListN.{length, get_or}
+use lib.ListN.{get_or}
 use Rattle.lanes.specs.Lanes.{lane_of}
 use Rattle.lanes.proofs.Laws.{lowest-lanes}
 use Rattle.runs.specs.Model.{Model}
-use Rattle.allowed_rows.specs.Asked.{AccessReady}
 use Rattle.allowed_rows.specs.Basis.{model_by}
 use Rattle.hits.proofs.Laws.{hit_on, hit_few, hit-here, hit-nowhere}
 use borrow.Author.Rules.{rules}

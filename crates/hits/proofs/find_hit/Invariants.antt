@@ -1,18 +1,12 @@
 -- `hits::find_hit` meets its contract. The loop's invariant: there is no hit at the places below i, and the formula stays worked out. The measure is what is
 -- left of the places.
-use mathlib.Core.Path.{◌≡◌, refl, ap, ◌∙◌}
-use mathlib.Core.Bool.{Bool}
+use mathlib.Core.Path.{◌≡◌}
 use Prim.Native.Nat.{ℕ, ◌-◌, ◌≤◌, ◌<◌}
-use native.Mathlib.Omega.{arith}
-use borrow.Author.Count.{below_more}
 use lib.ListN.{length, get_or}
 use Rattle.lanes.specs.Lanes.{lane_of}
-use Rattle.lanes.proofs.Laws.{lowest-lanes}
-use Rattle.runs.specs.Model.{Model}
 use Rattle.allowed_rows.specs.Asked.{AccessReady}
 use Rattle.allowed_rows.specs.Basis.{model_by}
-use Rattle.hits.proofs.Laws.{hit_on, hit_few, hit-here, hit-nowhere}
-use borrow.Author.Rules.{rules}
+use Rattle.hits.proofs.Laws.{hit_on}
 use Rattle.hits.proofs.find_hit.Given as goal
 
 abbrev pub invariant-loop-i : goal.invariant-loop-i

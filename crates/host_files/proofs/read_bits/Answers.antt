@@ -1,6 +1,5 @@
 -- `host_files::read_bits` meets its contract: the number and the count of what `read_rules` answers.
 use mathlib.Core.Path.{sym, ap}
-use borrow.Author.Rules.{rules}
 use Rattle.rules.proofs.Laws.{was-accepted, was-refused}
 use Rattle.host_files.specs.Numbers.{number_of}
 use Rattle.host_files.proofs.read_bits.Goals as goal

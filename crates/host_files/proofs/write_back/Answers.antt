@@ -1,7 +1,6 @@
 -- `host_files::write_back` meets its contract: a refused file gives its number; rules are written as `write_rules` says.
 use mathlib.Core.Path.{◌≡◌, sym, ap, ◌∙◌}
 use lib.ListN.{length}
-use borrow.Author.Rules.{rules}
 use Rattle.format.specs.File.{Bytes}
 use Rattle.policy.specs.Rules.{policy_of}
 use Rattle.rules.specs.Answers.{Answer, reading, writing, filled}

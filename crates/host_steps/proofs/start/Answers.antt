@@ -3,7 +3,6 @@ use mathlib.Core.Path.{ap}
 use Rattle.live.specs.Lent.{refusal_of, leaves}
 use Rattle.rules.specs.Answers.{reading}
 use Rattle.host_steps.proofs.Laws.{start-number, start-done}
-use borrow.Author.Rules.{rules}
 use Rattle.host_steps.proofs.start.Goals as goal
 
 pub returns-in-Refused : goal.returns-in-Refused

@@ -5,7 +5,6 @@ use Rattle.policy.specs.Rules.{policy_of}
 use Rattle.rules.specs.Answers.{reading, rules}
 use Rattle.rules.proofs.Laws.{was-accepted, was-refused}
 use Rattle.host_steps.proofs.Laws.{step-unread, step-told}
-use borrow.Author.Rules.{rules as search_rules}
 use Rattle.host_steps.proofs.step.Goals as goal
 
 pub returns-in-Refused : goal.returns-in-Refused

@@ -6,7 +6,6 @@ use Rattle.rules.specs.Answers.{reading, rules}
 use Rattle.rules.proofs.Laws.{was-accepted, was-refused}
 use Rattle.replay.specs.Rows.{Ran}
 use Rattle.host_steps.proofs.Laws.{steps-unread, steps-told}
-use borrow.Author.Rules.{rules as search_rules}
 use Rattle.host_steps.proofs.step_all.Goals as goal
 
 pub returns-in-Refused : goal.returns-in-Refused

@@ -1,16 +1,12 @@
 -- `item_changes::grow` meets its contract. The loop's invariant: the places below i are gone through. The measure is what is left of the 256.
-use mathlib.Core.Path.{◌≡◌, refl, ap, ◌∙◌}
+use mathlib.Core.Path.{◌≡◌}
 use Prim.Native.Nat.{◌-◌, ◌≤◌}
-use native.Mathlib.Omega.{arith}
 use lib.ListN.{length}
 use Rattle.lanes.specs.Lanes.{lane_of}
 use Rattle.allowed_rows.specs.Asked.{ModifyPrepared}
 use Rattle.allowed_rows.specs.Basis.{model_by}
 use Rattle.search.specs.Lent.{found_of, Long}
-use Rattle.search.specs.Items.{items_at, grow_items}
-use Rattle.search.specs.declared.queue.Found.{Found}
-use Rattle.search.proofs.ItemLaws.{items-start, items-turn}
-use borrow.Author.Rules.{rules}
+use Rattle.search.specs.Items.{grow_items}
 use Rattle.item_changes.proofs.grow.Given as goal
 
 abbrev pub invariant-loop-i : goal.invariant-loop-i

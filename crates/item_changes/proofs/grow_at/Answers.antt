@@ -15,9 +15,12 @@ pub returns-then-is_none : goal.returns-then-is_none
 returns-then-is_none c =
     let a = c.args in
     let x = c.minus in
-    let n = c.is_none in record { links_after = cond-off _ _ _
+    let n = c.is_none in record {
+      links_after = cond-off _ _ _
           (more-at (model_by a.basis a.nodes.now).item_value (found_of a.head a.order.now a.links.now) a.basis.items x.result c.requires.in_lists.items x.ensures a.i n.result false
-          c.if-head-i.false n.ensures (ap not c.if-is_none.true)); modify_prepared_2 = c.requires.modify_prepared }
+          c.if-head-i.false n.ensures (ap not c.if-is_none.true));
+      modify_prepared_2 = c.requires.modify_prepared;
+    }
 
 pub offered-requires : goal.offered-requires
 offered-requires c = let p = c.requires in record { long = p.long; i_bound = search rules; in_lists = p.in_lists; modify_prepared = p.modify_prepared }
@@ -26,7 +29,10 @@ pub returns : goal.returns
 returns c =
     let a = c.args in
     let x = c.minus in
-    let n = c.is_none in record { links_after = cond-on _ _ _
+    let n = c.is_none in record {
+      links_after = cond-on _ _ _
           (more-at (model_by a.basis a.nodes.now).item_value (found_of a.head a.order.now a.links.now) a.basis.items x.result c.requires.in_lists.items x.ensures a.i n.result true
           c.if-head-i.false n.ensures (ap not c.if-is_none.false))
-          c.offered.ensures.links_after; modify_prepared_2 = c.offered.ensures.modify_prepared_2 }
+          c.offered.ensures.links_after;
+      modify_prepared_2 = c.offered.ensures.modify_prepared_2;
+    }

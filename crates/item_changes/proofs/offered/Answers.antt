@@ -1,12 +1,10 @@
 -- `item_changes::offered` meets its contract. The loop's invariant: the last k session values are gone through. The measure is what is left of the 256.
 use mathlib.Core.Path.{◌≡◌, refl, ap, ◌∙◌}
-use Prim.Native.Nat.{◌-◌, ◌≤◌}
 use native.Mathlib.Omega.{arith}
-use lib.ListN.{length, get_or}
+use lib.ListN.{get_or}
 use Rattle.lanes.specs.Lanes.{lane_of}
-use Rattle.allowed_rows.specs.Asked.{ModifyReady}
 use Rattle.allowed_rows.specs.Basis.{model_by}
-use Rattle.search.specs.Lent.{found_of, Long}
+use Rattle.search.specs.Lent.{found_of}
 use Rattle.search.specs.Items.{offered_by, offered}
 use Rattle.search.specs.declared.queue.Found.{Found}
 use Rattle.search.proofs.ItemLaws.{offered-start, offered-turn}

@@ -1,16 +1,12 @@
 -- `item_changes::offered` meets its contract. The loop's invariant: the last k session values are gone through. The measure is what is left of the 256.
-use mathlib.Core.Path.{◌≡◌, refl, ap, ◌∙◌}
+use mathlib.Core.Path.{◌≡◌}
 use Prim.Native.Nat.{◌-◌, ◌≤◌}
-use native.Mathlib.Omega.{arith}
-use lib.ListN.{length, get_or}
+use lib.ListN.{length}
 use Rattle.lanes.specs.Lanes.{lane_of}
 use Rattle.allowed_rows.specs.Asked.{ModifyReady}
 use Rattle.allowed_rows.specs.Basis.{model_by}
 use Rattle.search.specs.Lent.{found_of, Long}
-use Rattle.search.specs.Items.{offered_by, offered}
-use Rattle.search.specs.declared.queue.Found.{Found}
-use Rattle.search.proofs.ItemLaws.{offered-start, offered-turn}
-use borrow.Author.Rules.{rules}
+use Rattle.search.specs.Items.{offered}
 use Rattle.item_changes.proofs.offered.Given as goal
 
 abbrev pub invariant-loop-k : goal.invariant-loop-k

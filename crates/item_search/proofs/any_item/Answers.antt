@@ -18,7 +18,7 @@ use Rattle.search.proofs.Laws.{lent_nothing}
 use Rattle.search.proofs.ItemLaws.{ready-had, ready-asked}
 use Rattle.search.proofs.Fewer.{any-fewer}
 use Rattle.item_search.proofs.Laws.{each_fewer}
-use borrow.Author.Rules.{rules, elem_fits_field}
+use borrow.Author.Rules.{rules}
 use Rattle.item_search.proofs.any_item.Goals as goal
 
 pub asked-begun-requires : goal.asked-begun-requires

@@ -1,17 +1,14 @@
 -- `item_starts::asked` meets its contract. The loop's invariant: of the values not found yet those below n are asked for, and `rest` is what is left of
 -- them. The measure is what is left of the 256.
 use mathlib.Core.Path.{◌≡◌, refl, sym, ap, ◌∙◌}
-use mathlib.Core.Bool.{true, false}
-use Prim.Native.Nat.{ℕ, ◌-◌, ◌≤◌, ◌<◌}
+use mathlib.Core.Bool.{true}
 use native.Mathlib.Omega.{arith}
 use lib.Dec.{ltb}
-use lib.ListN.{length}
 use Rattle.lanes.specs.Lanes.{lane_of}
-use Rattle.lanes.proofs.Laws.{lowest-le, Rest, rest_all, rest-before, rest-on, rest-next, rest-between}
-use Rattle.allowed_rows.specs.Asked.{MakeReady}
+use Rattle.lanes.proofs.Laws.{lowest-le, rest_all, rest-before, rest-on, rest-next, rest-between}
 use Rattle.allowed_rows.specs.Basis.{model_by}
 use Rattle.search.specs.Queue.{unmet}
-use Rattle.search.specs.Lent.{found_of, Long}
+use Rattle.search.specs.Lent.{found_of}
 use Rattle.search.specs.Items.{last_maker, asked}
 use Rattle.search.proofs.Laws.{rest-here, unmet-lanes, unmet-listed}
 use Rattle.search.proofs.ItemLaws.{highest-le, made-last, asked-start, asked-next}

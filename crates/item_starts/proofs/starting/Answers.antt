@@ -2,13 +2,10 @@
 -- The measure is what is left of the count.
 use mathlib.Core.Path.{◌≡◌, sym, ap, ◌∙◌}
 use mathlib.Core.Bool.{not}
-use mathlib.Core.List.{List}
-use Prim.Native.Nat.{ℕ, ◌-◌, ◌≤◌, ◌<◌}
 use native.Mathlib.Omega.{arith}
-use lib.ListN.{get_or}
 use Rattle.policy.specs.Rules.{values_of}
 use Rattle.allowed.proofs.Laws.{value-at}
-use Rattle.search.specs.Lent.{found_of, Long}
+use Rattle.search.specs.Lent.{found_of}
 use Rattle.search.specs.Items.{start_roots}
 use Rattle.search.proofs.ItemLaws.{start-start, start-turn}
 use borrow.Author.Rules.{rules}

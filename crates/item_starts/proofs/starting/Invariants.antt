@@ -1,17 +1,11 @@
 -- `item_starts::starting` meets its contract. The loop's invariant: of any list that is as the array below the count, the first j values are gone through.
 -- The measure is what is left of the count.
-use mathlib.Core.Path.{◌≡◌, sym, ap, ◌∙◌}
-use mathlib.Core.Bool.{not}
+use mathlib.Core.Path.{◌≡◌}
 use mathlib.Core.List.{List}
 use Prim.Native.Nat.{ℕ, ◌-◌, ◌≤◌, ◌<◌}
-use native.Mathlib.Omega.{arith}
 use lib.ListN.{get_or}
-use Rattle.policy.specs.Rules.{values_of}
-use Rattle.allowed.proofs.Laws.{value-at}
 use Rattle.search.specs.Lent.{found_of, Long}
 use Rattle.search.specs.Items.{start_roots}
-use Rattle.search.proofs.ItemLaws.{start-start, start-turn}
-use borrow.Author.Rules.{rules}
 use Rattle.item_starts.proofs.starting.Given as goal
 
 abbrev pub invariant-loop-j : goal.invariant-loop-j

@@ -3,7 +3,6 @@ use mathlib.Core.Path.{ap, ◌∙◌}
 use Prim.Native.Nat.{ℕ, ◌-◌}
 use Rattle.session_rows.specs.Writing.{writing_of}
 use Rattle.leak.proofs.Parts.{actor-session, actor-other}
-use borrow.Author.Rules.{rules}
 use Rattle.leak.proofs.actor_of.Goals as goal
 
 pub returns-then-aim-eq-SESSION : goal.returns-then-aim-eq-SESSION

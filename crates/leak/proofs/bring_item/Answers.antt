@@ -1,10 +1,10 @@
 -- `leak::bring_item` meets its contract. The loop's invariant: the first j steps of the way are written. The measure is what is left of the steps.
 use mathlib.Core.Path.{◌≡◌, ap, ◌∙◌}
-use Prim.Native.Nat.{ℕ, ◌+◌, ◌-◌, ◌≤◌}
+use Prim.Native.Nat.{ℕ, ◌+◌}
 use native.Mathlib.Omega.{arith}
 use lib.ListN.{length}
 use Rattle.search.specs.Searched.{depth_at}
-use Rattle.session_rows.specs.Writing.{writing_of, Wrote}
+use Rattle.session_rows.specs.Writing.{writing_of}
 use Rattle.leak.specs.Leak.{item_to}
 use Rattle.session_rows.proofs.Laws.{kept, kept_on}
 use Rattle.leak.proofs.Parts.{item-none, item-goes, item-few}

@@ -1,14 +1,9 @@
 -- `leak::bring_item` meets its contract. The loop's invariant: the first j steps of the way are written. The measure is what is left of the steps.
-use mathlib.Core.Path.{◌≡◌, ap, ◌∙◌}
-use Prim.Native.Nat.{ℕ, ◌+◌, ◌-◌, ◌≤◌}
-use native.Mathlib.Omega.{arith}
+use mathlib.Core.Path.{◌≡◌}
+use Prim.Native.Nat.{◌-◌, ◌≤◌}
 use lib.ListN.{length}
-use Rattle.search.specs.Searched.{depth_at}
 use Rattle.session_rows.specs.Writing.{writing_of, Wrote}
 use Rattle.leak.specs.Leak.{item_to}
-use Rattle.session_rows.proofs.Laws.{kept, kept_on}
-use Rattle.leak.proofs.Parts.{item-none, item-goes, item-few}
-use borrow.Author.Rules.{rules}
 use Rattle.leak.proofs.bring_item.Given as goal
 
 abbrev pub invariant-loop-j : goal.invariant-loop-j

@@ -3,7 +3,6 @@ use mathlib.Core.Path.{ap, ◌∙◌}
 use native.Mathlib.Omega.{arith}
 use Rattle.search.specs.Searched.{via_at}
 use Rattle.leak.proofs.Parts.{item-started, item-made}
-use borrow.Author.Rules.{rules}
 use Rattle.leak.proofs.item_of.Goals as goal
 
 pub returns-then-via-ge256 : goal.returns-then-via-ge256

@@ -2,7 +2,6 @@
 use lib.ListN.{length}
 use Rattle.session_rows.specs.Writing.{writing_of}
 use Rattle.leak.proofs.Parts.{ready-session, ready-user, ready-anyone}
-use borrow.Author.Rules.{rules}
 use Rattle.leak.proofs.ready_actor.Goals as goal
 
 pub returns-then-aim-eq-SESSION : goal.returns-then-aim-eq-SESSION

@@ -1,12 +1,11 @@
 -- `session_rows::ancestor` meets its contract. The loop's invariant: of any search with these parents, p is the place i links before pos. The measure is
 -- what is left of the links.
 use mathlib.Core.Path.{◌≡◌, refl, sym, ap, ◌∙◌}
-use Prim.Native.Nat.{ℕ, ◌-◌, ◌≤◌}
+use Prim.Native.Nat.{ℕ, ◌-◌}
 use native.Mathlib.Omega.{arith}
 use borrow.Author.Rules.{rules}
 use lib.ListN.{get_or}
 use Rattle.search.specs.Path.{ancestor}
-use Rattle.search.specs.declared.queue.Found.{Found}
 use Rattle.search.proofs.Paths.{ancestor-none, ancestor-more}
 use Rattle.session_rows.proofs.ancestor.Goals as goal
 

@@ -5,7 +5,6 @@ use Rattle.session_rows.specs.Writing.{writing_of}
 use Rattle.session_rows.specs.Way.{way_rows}
 use Rattle.session_rows.proofs.Laws.{after-way, kept_at}
 use Rattle.session_rows.proofs.Brought.{brought-is}
-use borrow.Author.Rules.{rules}
 use Rattle.session_rows.proofs.bring.Goals as goal
 
 pub stand-requires : goal.stand-requires

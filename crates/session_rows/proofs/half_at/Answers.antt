@@ -1,7 +1,6 @@
 -- `session_rows::half_at` meets its contract: past the end it is the default that the list gives.
 use mathlib.Core.Path.{sym}
 use lib.ListN.{get_or-eq_default}
-use borrow.Author.Rules.{rules}
 use Rattle.session_rows.proofs.half_at.Goals as goal
 
 pub returns-else-k-s : goal.returns-else-k-s

@@ -4,7 +4,6 @@ use lib.ListN.{length}
 use Rattle.session_rows.specs.Writing.{writing_of}
 use Rattle.session_rows.proofs.Laws.{kept}
 use Rattle.session_rows.proofs.Brought.{help-stands, help-new}
-use borrow.Author.Rules.{rules}
 use Rattle.session_rows.proofs.help.Goals as goal
 
 pub returns-then-number_at-ne0 : goal.returns-then-number_at-ne0
@@ -14,5 +13,8 @@ returns-then-number_at-ne0 c =
 pub returns : goal.returns
 returns c =
     let a = c.args in
-    let b = c.bring in record { rows_after = help-new (length a.rows.now) a.users a.by a.v _ _ (writing_of a.pen a.rows.now) _ (sym c.number_at.ensures ∙ c.if-number_at-ne0.false)
-          c.named_for-u.ensures c.search_of.ensures b.ensures.rows_after; wrote = b.ensures.wrote }
+    let b = c.bring in record {
+      rows_after = help-new (length a.rows.now) a.users a.by a.v _ _ (writing_of a.pen a.rows.now) _ (sym c.number_at.ensures ∙ c.if-number_at-ne0.false)
+          c.named_for-u.ensures c.search_of.ensures b.ensures.rows_after;
+      wrote = b.ensures.wrote;
+    }

@@ -4,7 +4,6 @@ use native.Mathlib.Omega.{arith}
 use lib.ListN.{length, get_or-eq_default}
 use Rattle.search.specs.Queue.{nothing}
 use Rattle.session_rows.proofs.Laws.{get_or_any}
-use borrow.Author.Rules.{rules}
 use Rattle.session_rows.proofs.search_of.Goals as goal
 
 pub returns-then-u-lt16 : goal.returns-then-u-lt16

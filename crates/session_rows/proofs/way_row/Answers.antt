@@ -1,6 +1,5 @@
 -- `session_rows::way_row` meets its contract: the first step opens the session, the others change it.
 use Rattle.session_rows.proofs.Laws.{row_first, row-later}
-use borrow.Author.Rules.{rules}
 use Rattle.session_rows.proofs.way_row.Goals as goal
 
 pub returns-then-i-eq0 : goal.returns-then-i-eq0

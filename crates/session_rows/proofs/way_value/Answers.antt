@@ -1,7 +1,6 @@
 -- `session_rows::way_value` meets its contract.
 use mathlib.Core.Path.{ap, ◌∙◌}
 use Rattle.search.specs.Searched.{value_at}
-use borrow.Author.Rules.{rules}
 use Rattle.session_rows.proofs.way_value.Goals as goal
 
 pub returns : goal.returns

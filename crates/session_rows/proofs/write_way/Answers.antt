@@ -1,8 +1,7 @@
 -- `session_rows::write_way` meets its contract. The loop's invariant: j rows are filled from the end so far on. The measure is what is left of the count.
 use mathlib.Core.Path.{◌≡◌, refl}
-use Prim.Native.Nat.{◌+◌, ◌-◌, ◌≤◌}
+use Prim.Native.Nat.{◌+◌, ◌-◌}
 use native.Mathlib.Omega.{arith}
-use lib.ListN.{length}
 use Rattle.search.specs.Searched.{depth_at}
 use Rattle.session_rows.proofs.Laws.{way_row, Filled, filled_none, filled_more, no_way, way-written, way-kept, kept}
 use borrow.Author.Rules.{rules}

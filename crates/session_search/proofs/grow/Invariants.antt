@@ -1,16 +1,12 @@
 -- `session_search::grow` meets its contract. The loop's invariant: the places below i are worked off. The measure is what is left of the 256.
-use mathlib.Core.Path.{◌≡◌, refl, ap, ◌∙◌}
+use mathlib.Core.Path.{◌≡◌}
 use Prim.Native.Nat.{◌-◌, ◌≤◌}
-use native.Mathlib.Omega.{arith}
 use lib.ListN.{length}
 use Rattle.runs.specs.Edge.{changes_to}
 use Rattle.allowed_rows.specs.Asked.{ChangeReady}
 use Rattle.allowed_rows.specs.Basis.{model_by, InLists}
 use Rattle.search.specs.Lent.{found_of, Long}
-use Rattle.search.specs.Sessions.{grown_at, grow_to}
-use Rattle.search.specs.declared.queue.Found.{Found}
-use Rattle.search.proofs.Laws.{grow-start, grow-turn}
-use borrow.Author.Rules.{rules}
+use Rattle.search.specs.Sessions.{grow_to}
 use Rattle.session_search.proofs.grow.Given as goal
 
 abbrev pub invariant-loop-i : goal.invariant-loop-i

@@ -6,14 +6,16 @@ use Rattle.search.specs.Queue.{nothing}
 use Rattle.search.specs.Sessions.{grow_to}
 use Rattle.search.specs.declared.queue.Found.{Found}
 use Rattle.search.proofs.Laws.{spread-lanes, opens_row, sessions-are}
-use borrow.Author.Rules.{rules}
 use Rattle.session_search.proofs.user_values.Goals as goal
 
 pub returns : goal.returns
 returns c =
     let f = c.from_starts in
     let a = c.args in
-    let m = model_by a.basis a.nodes.now in record { value = f.ensures.value
+    let m = model_by a.basis a.nodes.now in record {
+      value = f.ensures.value
           ∙ ap (λ (q : Found). grow_to m.session_value (changes_to m a.u) q 256)
           (spread-lanes nothing 0 0 (opens_with m a.u) a.opened (opens_row m a.u a.basis.sessions a.opened c.requires.in_lists.sessions c.requires.lanes))
-          ∙ sym (sessions-are m a.u); change_prepared_2 = f.ensures.change_prepared_2 }
+          ∙ sym (sessions-are m a.u);
+      change_prepared_2 = f.ensures.change_prepared_2;
+    }

@@ -1,7 +1,7 @@
 -- `user_results::count_pairs` meets its contract. The loop's invariant: the pairs of the users below u are counted. The measure is what is left of the 16.
 use mathlib.Core.Path.{◌≡◌, sym, ap, ap₂, ◌∙◌}
 use mathlib.Core.List.{[]}
-use Prim.Native.Nat.{◌+◌, ◌*◌, ◌-◌, ◌≤◌}
+use Prim.Native.Nat.{◌+◌}
 use native.Mathlib.Omega.{arith}
 use lib.ListN.{length}
 use Rattle.search.specs.Queue.{nothing}

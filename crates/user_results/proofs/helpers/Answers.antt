@@ -1,10 +1,10 @@
 -- `user_results::helpers` meets its contract. The loop's invariant: what users below u can have. The measure is what is left of the 16.
 use mathlib.Core.Path.{◌≡◌, sym, ap, ap₂, ◌∙◌}
 use mathlib.Core.Bool.{◌||◌}
-use Prim.Native.Nat.{ℕ, ◌-◌, ◌≤◌}
+use Prim.Native.Nat.{ℕ}
 use native.Mathlib.Omega.{arith}
 use lib.ListN.{length}
-use Rattle.lanes.specs.Lanes.{lane_of, Lanes}
+use Rattle.lanes.specs.Lanes.{lane_of}
 use Rattle.search.specs.Queue.{nothing}
 use Rattle.search.specs.declared.queue.Found.{Found}
 use Rattle.session_rows.proofs.Laws.{get_or_any}

@@ -1,6 +1,5 @@
 -- `user_results::name_one` meets its contract.
-use borrow.Author.Tests.{eq-eqb, ne_eqb, not-true, not-false}
-use borrow.Author.Rules.{rules}
+use borrow.Author.Tests.{eq-eqb, ne_eqb}
 use Rattle.user_results.proofs.name_one.Goals as goal
 
 pub returns-then-not-has : goal.returns-then-not-has

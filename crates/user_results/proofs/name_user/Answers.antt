@@ -1,11 +1,11 @@
 -- `user_results::name_user` meets its contract. The loop's invariant: the values below v are named anew. The measure is what is left of the 256.
 use mathlib.Core.Path.{ap, ◌∙◌}
 use mathlib.Core.Bool.{Bool, ◌&&◌, ◌||◌, cond}
-use Prim.Native.Nat.{◌+◌, ◌-◌, ◌≤◌}
+use Prim.Native.Nat.{◌+◌}
 use native.Mathlib.Omega.{arith}
 use lib.Dec.{eqb}
 use lib.ListN.{get_or}
-use Rattle.user_results.proofs.Laws.{Renamed, renamed-none, renamed-more, renamed-all}
+use Rattle.user_results.proofs.Laws.{renamed-none, renamed-more, renamed-all}
 use borrow.Author.Rules.{rules}
 use Rattle.user_results.proofs.name_user.Goals as goal
 

@@ -1,12 +1,6 @@
 -- `user_results::name_user` meets its contract. The loop's invariant: the values below v are named anew. The measure is what is left of the 256.
-use mathlib.Core.Path.{ap, ◌∙◌}
-use mathlib.Core.Bool.{Bool, ◌&&◌, ◌||◌, cond}
-use Prim.Native.Nat.{◌+◌, ◌-◌, ◌≤◌}
-use native.Mathlib.Omega.{arith}
-use lib.Dec.{eqb}
-use lib.ListN.{get_or}
-use Rattle.user_results.proofs.Laws.{Renamed, renamed-none, renamed-more, renamed-all}
-use borrow.Author.Rules.{rules}
+use Prim.Native.Nat.{◌-◌, ◌≤◌}
+use Rattle.user_results.proofs.Laws.{Renamed}
 use Rattle.user_results.proofs.name_user.Given as goal
 
 abbrev pub invariant-loop-v : goal.invariant-loop-v

@@ -1,9 +1,7 @@
 -- `user_searches::first_with` meets its contract. The loop only has to stay within the users before u. The measure is what is left of them.
-use mathlib.Core.Path.{◌≡◌, refl, sym, ◌∙◌}
+use mathlib.Core.Path.{refl, sym, ◌∙◌}
 use mathlib.Core.Logic.{inl, inr}
-use Prim.Native.Nat.{◌-◌, ◌≤◌}
 use native.Mathlib.Omega.{arith}
-use borrow.Author.Rules.{rules}
 use Rattle.user_searches.proofs.first_with.Goals as goal
 
 pub returns-then-users-u : goal.returns-then-users-u

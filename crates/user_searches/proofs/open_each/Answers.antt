@@ -1,14 +1,8 @@
 -- `user_searches::open_each` meets its contract. The loop's invariant: the rows of the users below u are there, and the formula stays prepared. The measure
 -- is what is left of the 16.
-use mathlib.Core.Path.{◌≡◌, refl, ◌∙◌}
-use mathlib.Core.List.{List, []}
-use Prim.Native.Nat.{ℕ, ◌-◌, ◌≤◌}
+use mathlib.Core.Path.{refl, ◌∙◌}
 use native.Mathlib.Omega.{arith}
-use lib.ListN.{length}
-use Rattle.lanes.specs.Lanes.{Lanes}
-use Rattle.allowed_rows.specs.Asked.{OpenPrepared}
-use Rattle.user_searches.specs.Opened.{opens_in}
-use Rattle.user_searches.proofs.Laws.{Filled, filled_none, filled_more}
+use Rattle.user_searches.proofs.Laws.{filled_none, filled_more}
 use borrow.Author.Rules.{rules}
 use Rattle.user_searches.proofs.open_each.Goals as goal
 

@@ -4,7 +4,7 @@ use mathlib.Core.Path.{◌≡◌, refl, sym, ap, subst, ◌∙◌}
 use mathlib.Core.Bool.{cond}
 use mathlib.Core.List.{[]}
 use mathlib.Core.Logic.{⊎_elim}
-use Prim.Native.Nat.{ℕ, ◌-◌, ◌≤◌}
+use Prim.Native.Nat.{ℕ}
 use native.Mathlib.Omega.{arith}
 use lib.Dec.{ltb}
 use lib.ListN.{length}
@@ -12,13 +12,13 @@ use Rattle.lanes.specs.Lanes.{Lanes}
 use Rattle.policy.specs.Rules.{policy_of}
 use Rattle.allowed.specs.Allowed.{model_of}
 use Rattle.allowed_rows.specs.Asked.{ChangePrepared}
-use Rattle.allowed_rows.specs.Basis.{rules_by, model_by}
+use Rattle.allowed_rows.specs.Basis.{rules_by}
 use Rattle.search.specs.Queue.{nothing}
 use Rattle.search.specs.Sessions.{sessions_found}
 use Rattle.search.specs.declared.queue.Found.{Found}
 use Rattle.session_rows.proofs.Laws.{get_or_any}
 use Rattle.user_searches.specs.Opened.{opens_in}
-use Rattle.user_searches.proofs.Laws.{Filled, filled_none, filled_more, found_alike}
+use Rattle.user_searches.proofs.Laws.{filled_none, filled_more, found_alike}
 use borrow.Author.Rules.{rules}
 use Rattle.user_searches.proofs.search_each.Goals as goal
 use Rattle.user_searches.proofs.search_each.Goals.{then-w-u, else-w-u}
@@ -53,10 +53,10 @@ loop-u-preserved c =
       filled_more l.users l.u c.if-w-u.q (omega arith) l.invariant.3
           (elim c.if-w-u.branch [
             | then-w-u w ↦
-              let (there, same) = ⊎_elim (λ (e : f.result ≡ l.u). absurd (omega (arith, w.if-w-u.true))) (λ x. x) f.ensures.fact in
-              subst (P l.u) (sym w.q-is)
-              (found_alike r l.u f.result w.if-w-u.true there same _
-              (subst (P f.result) (get_or_any l.users f.result nothing _ (omega (arith, w.if-w-u.true, l.invariant.3.long))) (l.invariant.3.each f.result w.if-w-u.true)))
+                let (there, same) = ⊎_elim (λ (e : f.result ≡ l.u). absurd (omega (arith, w.if-w-u.true))) (λ x. x) f.ensures.fact in
+                subst (P l.u) (sym w.q-is)
+                (found_alike r l.u f.result w.if-w-u.true there same _
+                (subst (P f.result) (get_or_any l.users f.result nothing _ (omega (arith, w.if-w-u.true, l.invariant.3.long))) (l.invariant.3.each f.result w.if-w-u.true)))
             | else-w-u w ↦ subst (P l.u) (sym w.q-is) w.search_user-q.ensures.value
           ]),
     )

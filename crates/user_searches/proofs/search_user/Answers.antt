@@ -10,7 +10,6 @@ use Rattle.allowed_rows.specs.declared.Basis.{Basis}
 use Rattle.allowed.proofs.ModelLaws.{model-users}
 use Rattle.search.specs.Queue.{nothing}
 use Rattle.search.specs.Sessions.{sessions_found}
-use borrow.Author.Rules.{rules}
 use Rattle.user_searches.proofs.search_user.Goals as goal
 
 -- whether there is such a user

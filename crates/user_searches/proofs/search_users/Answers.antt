@@ -5,7 +5,6 @@ use Rattle.runs.specs.Model.{Model}
 use Rattle.allowed_rows.proofs.BasisLaws.{basis-model, basis-lists}
 use Rattle.allowed_rows.proofs.ScratchLaws.{scratch-kept}
 use Rattle.user_results.specs.Found.{UsersFound}
-use borrow.Author.Rules.{rules}
 use Rattle.user_searches.proofs.search_users.Goals as goal
 
 pub prepare-change-requires : goal.prepare-change-requires

@@ -1,6 +1,5 @@
 -- `search::all_found` meets its contract.
 use mathlib.Core.Path.{refl}
-use borrow.Author.Rules.{rules}
 use Rattle.search.proofs.queue.all_found.Goals as goal
 
 pub returns : goal.returns

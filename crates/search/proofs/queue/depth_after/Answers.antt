@@ -3,7 +3,6 @@ use mathlib.Core.Path.{sym, ap, ◌∙◌}
 use Prim.Native.Nat.{ℕ, ◌+◌, ◌-◌, ◌%◌}
 use Rattle.search.proofs.Laws.{depth-start, depth-far, depth-at}
 use Rattle.search.proofs.Parts.{part_at}
-use borrow.Author.Rules.{rules}
 use Rattle.search.proofs.queue.depth_after.Goals as goal
 
 pub returns-then-parent-eq0 : goal.returns-then-parent-eq0

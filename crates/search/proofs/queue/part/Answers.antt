@@ -1,6 +1,5 @@
 -- `search::part` meets its contract. The loop's invariant: the links below k are in place. The measure is what is left of the 256.
 use mathlib.Core.Path.{◌≡◌, subst}
-use Prim.Native.Nat.{◌-◌, ◌≤◌}
 use native.Mathlib.Omega.{arith}
 use Rattle.search.proofs.Parts.{Filled, filled_more, filled-all}
 use borrow.Author.Rules.{rules}

@@ -1,9 +1,6 @@
 -- `search::part` meets its contract. The loop's invariant: the links below k are in place. The measure is what is left of the 256.
-use mathlib.Core.Path.{◌≡◌, subst}
 use Prim.Native.Nat.{◌-◌, ◌≤◌}
-use native.Mathlib.Omega.{arith}
-use Rattle.search.proofs.Parts.{Filled, filled_more, filled-all}
-use borrow.Author.Rules.{rules}
+use Rattle.search.proofs.Parts.{Filled}
 use Rattle.search.proofs.queue.part.Given as goal
 
 abbrev pub invariant-loop-k : goal.invariant-loop-k

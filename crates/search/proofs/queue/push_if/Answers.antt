@@ -1,6 +1,5 @@
 -- `search::push_if` meets its contract.
 use Rattle.search.proofs.Laws.{cond-on, cond-off}
-use borrow.Author.Rules.{rules}
 use Rattle.search.proofs.queue.push_if.Goals as goal
 
 pub returns-then-on : goal.returns-then-on

@@ -1,16 +1,12 @@
 -- `search::spread` meets its contract. The loop's invariant: of any row whose new values are those that the loop starts with, those below y are in, and
 -- `rest` is what is left of them. The measure is what is left of the 256.
-use mathlib.Core.Path.{◌≡◌, sym, ap, ◌∙◌}
+use mathlib.Core.Path.{◌≡◌}
 use mathlib.Core.List.{List}
 use Prim.Native.Nat.{ℕ, ◌-◌, ◌≤◌}
-use native.Mathlib.Omega.{arith}
-use lib.ListN.{length}
 use Rattle.lanes.specs.Lanes.{lane_of, Lanes}
-use Rattle.lanes.proofs.Laws.{lanes-own, lowest-le, Rest, rest_all, rest-before, rest-on, rest-next, rest-between}
+use Rattle.lanes.proofs.Laws.{Rest}
 use Rattle.search.specs.Queue.{unmet, spread_to}
 use Rattle.search.specs.Lent.{found_of, Long}
-use Rattle.search.proofs.Laws.{rest-here, unmet-lanes, spread-start, spread-next, spread_end}
-use borrow.Author.Rules.{rules}
 use Rattle.search.proofs.queue.spread.Given as goal
 
 abbrev pub invariant-loop-y : goal.invariant-loop-y

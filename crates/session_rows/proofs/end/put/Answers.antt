@@ -2,7 +2,6 @@
 use mathlib.Core.List.{[], ◌∷◌}
 use native.Mathlib.Omega.{arith}
 use Rattle.session_rows.proofs.Laws.{none_written, kept, one_written, one_kept}
-use borrow.Author.Rules.{rules}
 use Rattle.session_rows.proofs.end.put.Goals as goal
 
 pub returns-then-rows-at : goal.returns-then-rows-at

@@ -2,7 +2,6 @@
 use mathlib.Core.Path.{ap, ◌∙◌}
 use Rattle.cells.specs.Row.{bits_of}
 use Rattle.session_rows.proofs.Laws.{row-bits}
-use borrow.Author.Rules.{rules}
 use Rattle.session_rows.proofs.end.row_of.Goals as goal
 
 pub returns : goal.returns

@@ -3,7 +3,6 @@ pub mod ItemsReach  -- the search of items is what one that is asked about can h
 pub mod Hits  -- there is a hit exactly where the verdict is a leak
 pub mod Asked  -- what a question asks, and what the searches say of it
 pub mod Aims  -- what a leak aims at, where there is a hit
-pub mod Brought  -- where the starting sessions are computed to be brought about, they can be
 pub mod Starts  -- starting sessions that could have been brought about, computed and of runs
 pub mod LeakMeans  -- the rows that are left are a leak of the run, and few
 pub mod Decides  -- what the published promise of an answer rests on

@@ -34,8 +34,7 @@ use Rattle.analyser.proofs.Widths.{beginning-below}
 use Rattle.analyser.proofs.Asked.{asks-something, asked-who, asked-which}
 use Rattle.analyser.proofs.Decides.{refused_none, rules-same}
 use Rattle.analyser.proofs.Unlisted.{replayed-unlisted, told-unlisted, never-unlisted, needed-unlisted}
-use Rattle.analyser.proofs.Brought.{brought-of}
-use Rattle.analyser.proofs.Starts.{starts-could}
+use Rattle.analyser.proofs.Starts.{brought-of, starts-could}
 use Rattle.analyser.proofs.Numbers.{Came, unread, nine, ten, eleven, judged, came, asks-is, decided-two, is-of-file, is-either, is-empty, is-nine, is-ten, is-eleven, is-decided, is-judged}
 
 safe-not : (b : Bool) → cond b leak_verdict safe_verdict ≡ safe_verdict → b ≡ true → ⊥

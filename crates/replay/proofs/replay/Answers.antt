@@ -67,5 +67,5 @@ returns-else-last_fits c =
     held c.asks.ensures c.if-not-asks.false in
     let a = c.args in let both = leaving
     (replay-missed a.question.now a.rows.now a.sessions.now a.items.now _ (read) (asking)
-    c.start_with-begun.ensures (ap refusal_of c.in-Done.is) c.steps_at-ran.ensures (rows-every _ _ _ a.rows.now c.steps_at-ran.ensures c.if-ran-rows.false)
+    c.start_with-begun.ensures (ap refusal_of c.in-Done.is) c.steps_at-ran.ensures (rows-every _ _ _ a.rows.now c.steps_at-ran.ensures (c.if-ran-rows.false))
     (c.last_fits.ensures _) c.of.ensures c.if-last_fits.false) in record { result_value = both.0; sessions_after = both.1.0; after = both.1.1 }

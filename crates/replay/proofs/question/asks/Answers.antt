@@ -39,4 +39,4 @@ returns c =
     let q = c.of-q in
     let h = held c.who_there.ensures c.if-not-who_there.false in
     let f = held c.which_there.ensures c.if-not-which_there.false in
-    sym (asked a.rules a.bytes.now q.result q.ensures ∙ simp (eq-eqb (length a.bytes.now) 3 (omega (arith, c.if-bytes-ne-BYTES.false)), eq-eqb _ _ c.if-q-ne0.false, h, f))
+    sym (asked a.rules a.bytes.now q.result q.ensures ∙ simp (eq-eqb (length a.bytes.now) 3 (omega (arith, (c.if-bytes-ne-BYTES.false))), eq-eqb _ _ c.if-q-ne0.false, h, f))

@@ -18,8 +18,8 @@ pub fn start(
     session: &mut u64,
     item: &mut u64,
 ) -> u32
-    ensures value { result ≡ host_number (host_started (reading file.now) (lent_as sessions.old items.old record { session = session.entry.now; item = item.old })).refusal }
-    ensures item_after { lent_as sessions.new items.new record { session = session.exit.now; item = item.new } ≡ (host_started (reading file.now) (lent_as sessions.old items.old record { session = session.entry.now; item = item.old })).lent }
+    ensures value { result ≡ host_number (host_started (reading file.now) (lent_as sessions.old items.old record { session = session.old; item = item.old })).refusal }
+    ensures item_after { lent_as sessions.new items.new record { session = session.new; item = item.new } ≡ (host_started (reading file.now) (lent_as sessions.old items.old record { session = session.old; item = item.old })).lent }
 {
     let s = starting::start(file, sessions, items);
     let outcome = s.outcome;
@@ -43,8 +43,8 @@ pub fn step(
     item: &mut u64,
     row: u64,
 ) -> u32
-    ensures value { result ≡ host_number (host_stepped (reading file.now) (lent_as sessions.old items.old record { session = session.entry.now; item = item.old }) row).refusal }
-    ensures item_after { lent_as sessions.new items.new record { session = session.exit.now; item = item.new } ≡ (host_stepped (reading file.now) (lent_as sessions.old items.old record { session = session.entry.now; item = item.old }) row).lent }
+    ensures value { result ≡ host_number (host_stepped (reading file.now) (lent_as sessions.old items.old record { session = session.old; item = item.old }) row).refusal }
+    ensures item_after { lent_as sessions.new items.new record { session = session.new; item = item.new } ≡ (host_stepped (reading file.now) (lent_as sessions.old items.old record { session = session.old; item = item.old }) row).lent }
 {
     let p = rules::read_rules(file);
     let answer = p.answer;
@@ -77,9 +77,9 @@ pub fn step_all(
     rows: &[u64],
     done: &mut u64,
 ) -> u32
-    ensures value { result ≡ host_number (host_steps (reading file.now) (lent_as sessions.old items.old record { session = session.entry.now; item = item.old }) rows.now).refusal }
-    ensures item_after { lent_as sessions.new items.new record { session = session.exit.now; item = item.new } ≡ (host_steps (reading file.now) (lent_as sessions.old items.old record { session = session.entry.now; item = item.old }) rows.now).lent }
-    ensures done_after { done.new ≡ (host_steps (reading file.now) (lent_as sessions.old items.old record { session = session.entry.now; item = item.old }) rows.now).count }
+    ensures value { result ≡ host_number (host_steps (reading file.now) (lent_as sessions.old items.old record { session = session.old; item = item.old }) rows.now).refusal }
+    ensures item_after { lent_as sessions.new items.new record { session = session.new; item = item.new } ≡ (host_steps (reading file.now) (lent_as sessions.old items.old record { session = session.old; item = item.old }) rows.now).lent }
+    ensures done_after { done.new ≡ (host_steps (reading file.now) (lent_as sessions.old items.old record { session = session.old; item = item.old }) rows.now).count }
 {
     *done = 0;
     let p = rules::read_rules(file);

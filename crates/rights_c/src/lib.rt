@@ -46,8 +46,8 @@ pub extern "C" fn rights_start(
     session: &mut u64,
     item: &mut u64,
 ) -> u32
-    ensures value { result ≡ host_number (host_started (reading file.now) (lent_as sessions.old items.old record { session = session.entry.now; item = item.old })).refusal }
-    ensures item_after { lent_as sessions.new items.new record { session = session.exit.now; item = item.new } ≡ (host_started (reading file.now) (lent_as sessions.old items.old record { session = session.entry.now; item = item.old })).lent }
+    ensures value { result ≡ host_number (host_started (reading file.now) (lent_as sessions.old items.old record { session = session.old; item = item.old })).refusal }
+    ensures item_after { lent_as sessions.new items.new record { session = session.new; item = item.new } ≡ (host_started (reading file.now) (lent_as sessions.old items.old record { session = session.old; item = item.old })).lent }
 {
     host_steps::start(file, sessions, items, session, item)
 }
@@ -62,8 +62,8 @@ pub extern "C" fn rights_step(
     item: &mut u64,
     row: u64,
 ) -> u32
-    ensures value { result ≡ host_number (host_stepped (reading file.now) (lent_as sessions.old items.old record { session = session.entry.now; item = item.old }) row).refusal }
-    ensures item_after { lent_as sessions.new items.new record { session = session.exit.now; item = item.new } ≡ (host_stepped (reading file.now) (lent_as sessions.old items.old record { session = session.entry.now; item = item.old }) row).lent }
+    ensures value { result ≡ host_number (host_stepped (reading file.now) (lent_as sessions.old items.old record { session = session.old; item = item.old }) row).refusal }
+    ensures item_after { lent_as sessions.new items.new record { session = session.new; item = item.new } ≡ (host_stepped (reading file.now) (lent_as sessions.old items.old record { session = session.old; item = item.old }) row).lent }
 {
     host_steps::step(file, sessions, items, session, item, row)
 }
@@ -81,9 +81,9 @@ pub extern "C" fn rights_steps(
     rows: &[u64],
     done: &mut u64,
 ) -> u32
-    ensures value { result ≡ host_number (host_steps (reading file.now) (lent_as sessions.old items.old record { session = session.entry.now; item = item.old }) rows.now).refusal }
-    ensures item_after { lent_as sessions.new items.new record { session = session.exit.now; item = item.new } ≡ (host_steps (reading file.now) (lent_as sessions.old items.old record { session = session.entry.now; item = item.old }) rows.now).lent }
-    ensures done_after { done.new ≡ (host_steps (reading file.now) (lent_as sessions.old items.old record { session = session.entry.now; item = item.old }) rows.now).count }
+    ensures value { result ≡ host_number (host_steps (reading file.now) (lent_as sessions.old items.old record { session = session.old; item = item.old }) rows.now).refusal }
+    ensures item_after { lent_as sessions.new items.new record { session = session.new; item = item.new } ≡ (host_steps (reading file.now) (lent_as sessions.old items.old record { session = session.old; item = item.old }) rows.now).lent }
+    ensures done_after { done.new ≡ (host_steps (reading file.now) (lent_as sessions.old items.old record { session = session.old; item = item.old }) rows.now).count }
 {
     host_steps::step_all(file, sessions, items, session, item, rows, done)
 }

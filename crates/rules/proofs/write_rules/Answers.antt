@@ -66,7 +66,7 @@ copy_front-requires c =
       short = s;
       front = ap (take (length (file_of p))) (f room) ∙ take_at (file_of p) _ (length (file_of p)) refl;
     } in
-    let m = made c.if-last-ne0.false in
+    let m = made (c.if-last-ne0.false) in
     (omega arith, omega (arith, m.long, m.short))
 
 pub returns : goal.returns
@@ -85,7 +85,7 @@ returns c =
     } in
     let a = c.args in
     let l = file_of (policy_of a.rules) in
-    let m = made c.if-last-ne0.false in
+    let m = (made c.if-last-ne0.false) in
     let s : length l ≤ length a.out.now = omega (arith, m.long) in
     let n : (c.put_policy-last.result.pos + 7) / 8 ≡ length l = m.long in record {
       value = long-written _ l m.file _ (length a.out.now) n s;

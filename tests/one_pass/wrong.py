@@ -8,7 +8,7 @@ import sys
 import tempfile
 
 SOURCES = ["crates/bits/src", "crates/format/src", "crates/reader_head/src", "crates/reader/src", "crates/rules/src"]
-DECISIONS = "docs/DECISIONS.md"
+OTHERS = ["docs/DECISIONS.md", "tests/one_pass/known.txt"]
 
 
 def fault(entry, root):
@@ -36,8 +36,9 @@ def main():
         with tempfile.TemporaryDirectory() as root:
             for folder in SOURCES:
                 shutil.copytree(folder, os.path.join(root, folder))
-            os.mkdir(os.path.join(root, "docs"))
-            shutil.copy(DECISIONS, os.path.join(root, DECISIONS))
+            for name in OTHERS:
+                os.makedirs(os.path.dirname(os.path.join(root, name)))
+                shutil.copy(name, os.path.join(root, name))
             what = fault(entry, root)
         if what:
             missed += 1

@@ -9,7 +9,6 @@ ghost use Rattle.alike.specs.Fields.{shift_in, bits_in};
 
 use formulas::table::{byte_of, place};
 use policy::Class;
-use policy::shape::{bits_for, byte_at};
 
 // Where the value of each operand of one holder begins in the holder's packed value, and how many bits it has there.
 #[derive(Clone, Copy)]
@@ -22,14 +21,12 @@ pub(super) struct Fields {
 // attribute first.
 fn lay(shifts: &mut [u8], bits: &mut [u8], h: usize, class: Class)
     requires { (32 * h + 32 ≤ length shifts.old) × (32 * h + 32 ≤ length bits.old) }
-    ensures filling { Filling (λ i k. min (width (drop (suc k) (attrs_of class))) 8) h h 0 shifts.old shifts.new }
-    ensures filling_2 { Filling (λ i k. bits_for (attr_of (attrs_of class) k)) h h 0 bits.old bits.new }
+    ensures shifts { Filling (λ i k. min (width (drop (suc k) (attrs_of class))) 8) h h 0 shifts.old shifts.new }
+    ensures bits { Filling (λ i k. bits_for (attr_of (attrs_of class) k)) h h 0 bits.old bits.new }
 {
     let mut left: usize = 0;
-    let mut k = byte_of(class.count as usize) as usize;
-    while 0 < k {
-        k -= 1;
-        let own = bits_for(byte_at(&class.kinds, k), byte_at(&class.sizes, k));
+    for k in (0..byte_of(class.count as usize) as usize).rev() {
+        let own = class.attribute(k).bits();
         let right = byte_of(left);
         place(shifts, h, h, k, right, right);
         place(bits, h, h, k, own, own);

@@ -1,8 +1,7 @@
 // Packed values of a holder that a formula cannot tell apart: one of each kind is enough to ask.
 #![tactic(auto)]
 
-ghost use Rattle.std.specs.Prelude.{◌≡◌, cond, ℕ, ◌+◌, ◌*◌, ◌<◌, get_or};
-ghost use Rattle.lanes.specs.Lanes.{lane_of};
+ghost use Rattle.std.specs.Prelude.{ℕ, ◌+◌, ◌*◌, ◌<◌, get_or};
 ghost use Rattle.policy.specs.Rules.{lists_of, nodes_of};
 ghost use Rattle.alike.specs.Alike.{OneOfEach};
 ghost use Rattle.alike.specs.Mask.{Keeps, KeepsNode, OneOfEachIn};
@@ -45,18 +44,11 @@ fn formula_mask<'a>(
 ) -> u64
     ensures { (k : ℕ) → k < n → KeepsNode shifts.now bits.now (get_or nodes.now (64 * f + k) 0) result }
 {
-    let mut m: u64 = 0;
+    let mut m = 0;
     for k in 0..n {
-        m = m | node_mask(shifts, bits, formulas::node::at(nodes, f, k));
+        m |= node_mask(shifts, bits, formulas::node::at(nodes, f, k));
     }
     m
-}
-
-// The value, or 256 where its bits have been met.
-fn if_new(met: [u64; 4], bits: usize, v: usize) -> usize
-    ensures { result ≡ cond (lane_of met bits) 256 v }
-{
-    if lanes::has(met, bits) { 256 } else { v }
 }
 
 // Of the values among those that are asked about, the last one with each choice of the bits of m.
@@ -65,17 +57,14 @@ fn one_of_each_in(m: u64, among: [u64; 4]) -> [u64; 4]
 {
     let mut r = lanes::none();
     let mut met = lanes::none();
-    let mut rest = among;
-    let mut v = lanes::highest(rest);
-    while v < 256 {
+    for v in lanes::members(among).rev() {
         let bits = (v as u64 & m) as usize;
-        let more = lanes::add(r, if_new(met, bits, v));
-        let now_met = lanes::add(met, bits);
-        let left = lanes::without(rest, v);
-        r = more;
-        met = now_met;
-        rest = left;
-        v = lanes::highest(rest);
+        if !lanes::has(met, bits) {
+            let more = lanes::add(r, v);
+            let now_met = lanes::add(met, bits);
+            r = more;
+            met = now_met;
+        }
     }
     r
 }

@@ -3,17 +3,20 @@ ghost use Rattle.std.specs.Prelude.{◌≡◌};
 ghost use Rattle.policy.specs.Rules.{policy_of};
 ghost use Rattle.allowed.specs.Allowed.{says as says_of};
 
+use bits::get_or;
 use formulas::Holders;
 use policy::Rules;
-use policy::shape::byte_at;
 
 // What formula f says of the holders; false where there is no such formula.
 pub(super) fn says(rules: Rules, f: usize, holders: Holders) -> bool
     ensures { result ≡ says_of (policy_of rules) f holders }
 {
-    if 4 + rules.permissions as usize <= f {
-        return false;
-    }
-    let n = byte_at(&rules.lengths, f);
-    formulas::holds(rules.classes, holders, &rules.nodes, f, n)
+    f < 4 + rules.permissions as usize
+        && formulas::holds(
+            rules.classes,
+            holders,
+            &rules.nodes,
+            f,
+            get_or(&rules.lengths, f, 0),
+        )
 }

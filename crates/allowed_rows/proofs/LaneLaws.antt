@@ -1,14 +1,11 @@
 -- Laws of sets of lanes behind a test.
-use mathlib.Core.Path.{◌≡◌, refl, sym, ap, ◌∙◌}
+use mathlib.Core.Path.{◌≡◌, sym, ap, ◌∙◌}
 use mathlib.Core.Bool.{Bool, true, false, ◌&&◌}
 use mathlib.Core.List.{List}
 use Prim.Native.Nat.{ℕ}
+use Rattle.std.proofs.Math.Bool.{and-false}
 use Rattle.lanes.specs.Lanes.{Lanes}
 use Rattle.lanes.proofs.Laws.{lanes-as}
-
-and-false : (a : Bool) → a && false ≡ false
-and-false true = refl
-and-false false = refl
 
 -- a test that does not look at the lane
 module _ (s g : ℕ → Bool) (t : Bool) (x : List ℕ) where

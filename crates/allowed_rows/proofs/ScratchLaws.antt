@@ -20,9 +20,8 @@ use Rattle.allowed_rows.specs.Basis.{BasisOf}
 use Rattle.allowed_rows.specs.Scratch.{Scratch}
 use Rattle.allowed_rows.specs.declared.Basis.{Basis}
 
-pub scratch-kept : {b : Basis} {steps area steps' area' : List ℕ} → Scratch b steps area → length steps' ≡ length steps → length area' ≡ length area
-    → Scratch b steps' area'
-scratch-kept S s a = record { nodes = S.nodes; steps-long = omega (arith, S.steps-long); area-long = λ h. omega (arith, S.area-long h) }
+pub scratch-kept : {b : Basis} {area area' : List ℕ} → Scratch b area → length area' ≡ length area → Scratch b area'
+scratch-kept S e = record { nodes = S.nodes; area-long = λ h. omega (arith, S.area-long h) }
 
 module _ (c : Lists) (w : ℕ) (user : width c.of_user ≤ w) (session : width c.of_session ≤ w) (item : width c.of_item ≤ w) where
   holder-width : (h : ℕ) → width (of_holder c h) ≤ w
@@ -49,18 +48,17 @@ formula-long r f h =
     ∙ length-tab (λ k. get_or r.nodes (64 * (0 + f) + k) 0) 0 (get_or r.lengths (0 + f) 0)
     ∙ ap (λ (k : ℕ). get_or r.lengths k 0) (let z : 0 + f ≡ f = omega arith in z)
 
-pub scratch-wide : (r : Rules) (b : Basis) (steps area : List ℕ) (w : ℕ) → BasisOf r b → Sound (policy_of r)
+pub scratch-wide : (r : Rules) (b : Basis) (area : List ℕ) (w : ℕ) → BasisOf r b → Sound (policy_of r)
     → width (attrs_of r.classes.user) ≤ w → width (attrs_of r.classes.session) ≤ w → width (attrs_of r.classes.item) ≤ w
-    → 192 ≤ length steps → 4 * (193 + 64 * 2 ^ w) ≤ length area → Scratch b steps area
+    → 4 * (193 + 64 * 2 ^ w) ≤ length area → Scratch b area
 unfolding policy_of lists_of
-scratch-wide r b steps area w B sound u s i long enough =
+scratch-wide r b area w B sound u s i enough =
     record {
       nodes = rw (B.permissions, B.lengths) λ f h. omega (arith, formula-long r f h, sound.nodes f);
-      steps-long = long;
       area-long = rw B.classes λ h. omega (arith, mul-le-mul_left 64 (room-wide (lists_of r.classes) w u s i h));
     }
 
-pub scratch-any : (r : Rules) (b : Basis) (steps area : List ℕ) → BasisOf r b → Sound (policy_of r) → 192 ≤ length steps → 4 * (193 + 64 * 2 ^ 8) ≤ length area
-    → Scratch b steps area
+pub scratch-any : (r : Rules) (b : Basis) (area : List ℕ) → BasisOf r b → Sound (policy_of r) → 4 * (193 + 64 * 2 ^ 8) ≤ length area
+    → Scratch b area
 unfolding policy_of lists_of
-scratch-any r b steps area B sound = scratch-wide r b steps area 8 B sound sound.user-width sound.session-width sound.item-width
+scratch-any r b area B sound = scratch-wide r b area 8 B sound sound.user-width sound.session-width sound.item-width

@@ -1,4 +1,4 @@
 -- in reading order
-pub mod Basis  -- what formulas are asked by, beside their nodes
+pub mod Basis  -- what formulas are asked by
 pub mod Scratch  -- what is lent to prepare formulas in
-pub mod Asked  -- the formulas prepared
+pub mod Asked  -- what is asked, and the formulas prepared for it

@@ -4,227 +4,155 @@
 ghost use Rattle.std.specs.Prelude.{◌≡◌, ◌&&◌, ℕ, ◌+◌, ◌<◌, ltb, length};
 ghost use Rattle.lanes.specs.Lanes.{lane_of, Lanes};
 ghost use Rattle.policy.specs.Rules.{lists_of};
-ghost use Rattle.runs.specs.Edge.{accesses};
 ghost use Rattle.alike.specs.Alike.{OneOfEach};
-ghost use Rattle.allowed_rows.specs.Asked.{nodes_at, PreparedFor, OpenPrepared, ChangePrepared, ChangeReady, MakePrepared, MakeReady, ModifyPrepared, ModifyReady, AccessPrepared, AccessReady};
+ghost use Rattle.allowed_rows.specs.Asked.{formula_of, lane_holder, row_holder, outer_holder, outer_value, nodes_at, allows, PreparedFor, ReadyFor, OpenPrepared};
 ghost use Rattle.allowed_rows.specs.Basis.{BasisOf, model_by};
 ghost use Rattle.allowed_rows.specs.Scratch.{Scratch};
 
 use allowed::holders::user_value;
-use policy::shape::byte_at;
+use bits::get_or;
 use policy::{Classes, Rules, Values};
-use prepared::{Plan, begin, row};
+use prepared::{Plan, Roles};
 
-// What formulas are asked by, but for their nodes, which are lent beside it: the lists, the users' values, how many permissions there are, how many
-// nodes each formula has, and as sets the values in the lists of sessions and of items.
+// What is asked of the rules' formulas: who may open a session with a value, change one, make an item, change one, or has a permission, by its number.
 #[derive(Clone, Copy)]
-pub struct Basis {
+pub enum Asked {
+    Open,
+    Change,
+    Make,
+    Modify,
+    Access(u8),
+}
+
+impl Asked {
+    // The place of its formula among those of the rules.
+    fn formula(self) -> usize
+        ensures { result ≡ formula_of self }
+    {
+        match self {
+            Asked::Open => 0,
+            Asked::Change => 1,
+            Asked::Make => 2,
+            Asked::Modify => 3,
+            Asked::Access(p) => 4 + p as usize,
+        }
+    }
+
+    // Whose values are asked about at once, whose are gone through one by one, and whose stays for a while.
+    fn roles(self) -> Roles
+        ensures { (result.lane ≡ lane_holder self) × (result.row ≡ row_holder self) × (result.outer ≡ outer_holder self) }
+    {
+        match self {
+            Asked::Open => Roles::new(2, 8, 0),
+            Asked::Change => Roles::new(2, 1, 0),
+            Asked::Make => Roles::new(1, 4, 9),
+            Asked::Modify => Roles::new(4, 1, 3),
+            Asked::Access(_) => Roles::new(1, 3, 9),
+        }
+    }
+}
+
+// What formulas are asked by: the lists, the users' values, how many permissions there are, how many nodes each formula has, the nodes, and as sets
+// the values in the lists of sessions and of items.
+#[derive(Clone, Copy)]
+pub struct Basis<'a> {
     pub classes: Classes,
     pub users: Values,
     pub permissions: u8,
     pub lengths: [u8; 12],
+    pub nodes: &'a [u32],
     pub sessions: [u64; 4],
     pub items: [u64; 4],
 }
 
 // What the formulas of the rules are asked by.
-pub fn basis_of(rules: Rules) -> Basis
-    ensures { BasisOf rules result }
+pub fn basis_of(rules: &Rules) -> Basis<'_>
+    ensures { BasisOf rules.now result }
 {
-    let classes = rules.classes;
-    let users = rules.users;
-    let lengths = rules.lengths;
-    let sessions = planes::values_of(classes.session);
-    let items = planes::values_of(classes.item);
     Basis {
-        classes,
-        users,
+        classes: rules.classes,
+        users: rules.users,
         permissions: rules.permissions,
-        lengths,
-        sessions,
-        items,
+        lengths: rules.lengths,
+        nodes: &rules.nodes,
+        sessions: planes::values_of(rules.classes.session),
+        items: planes::values_of(rules.classes.item),
     }
 }
 
-// Formula f is prepared for a lane holder, a row holder and an outer holder.
-pub fn prepare(
-    basis: Basis,
-    nodes: &[u32],
-    f: usize,
-    lane: u8,
-    row: u8,
-    outer: u8,
-    area: &mut [u64],
-    steps: &mut [u64],
-) -> Plan
-    requires f_bound { (f < 4 + basis.permissions) × Scratch basis steps.old area.old }
-    requires fact { (lane ≡ row → ⊥) × (lane ≡ outer → ⊥) × (row ≡ outer → ⊥) }
-    ensures prepared_for { PreparedFor basis nodes.now f lane row outer result steps.new area.new }
-    ensures steps_len_unchanged { length steps.new ≡ length steps.old }
-    ensures area_len_unchanged { length area.new ≡ length area.old }
-{
-    let n = byte_at(&basis.lengths, f) as usize;
-    preparing::prepare(basis.classes, nodes, f, n, lane, row, outer, area, steps)
-}
-
-// Of the values that are asked about, those that user u may open a session with.
-pub fn opened_with(
-    basis: Basis,
-    nodes: &[u32],
-    area: &mut [u64],
-    steps: &[u64],
-    plan: Plan,
-    u: u8,
-    among: [u64; 4],
-) -> [u64; 4]
-    requires { OpenPrepared basis nodes.now plan steps.now area.old }
-    ensures lanes { Lanes (λ (v : ℕ). (lane_of among v && (ltb u (model_by basis nodes.now).users && (model_by basis nodes.now).may_open u v))) result }
-    ensures open_prepared { OpenPrepared basis nodes.now plan steps.now area.new }
-    ensures area_len_unchanged { length area.new ≡ length area.old }
-{
-    if basis.users.count <= u {
-        return lanes::none();
+impl Basis<'_> {
+    // The formula of what is asked is prepared.
+    pub fn prepare(&self, asked: Asked, area: &mut [u64]) -> Plan
+        requires formula_bound { formula_of asked < 4 + self.now.permissions }
+        requires scratch { Scratch self.now area.old }
+        ensures prepared_for { PreparedFor self.now asked result area.new }
+        ensures area_len_unchanged { length area.new ≡ length area.old }
+    {
+        let f = asked.formula();
+        let n = get_or(&self.lengths, f, 0) as usize;
+        preparing::prepare(self.classes, self.nodes, f, n, asked.roles(), area)
     }
-    let x = user_value(basis.users, u);
-    begin(area, steps, plan, x as usize);
-    let row = row(area, steps, plan, 0);
-    lanes::and(among, row)
-}
 
-// What sessions of user u may be changed to is worked out as far as the user decides it.
-pub fn begin_changes(
-    basis: Basis,
-    nodes: &[u32],
-    area: &mut [u64],
-    steps: &[u64],
-    plan: Plan,
-    u: u8,
-)
-    requires { ChangePrepared basis nodes.now plan steps.now area.old }
-    ensures change_ready { ChangeReady basis nodes.now plan u steps.now area.new }
-    ensures area_len_unchanged { length area.new ≡ length area.old }
-{
-    let x = user_value(basis.users, u);
-    begin(area, steps, plan, x as usize);
-}
+    // The value of the outer holder: of user `outer`, of an item with the value `outer`, or of none.
+    fn outer_value(&self, asked: Asked, outer: u8) -> u8
+        ensures { result ≡ outer_value self.now asked outer }
+    {
+        match asked {
+            Asked::Open | Asked::Change => user_value(self.users, outer),
+            Asked::Modify => outer,
+            Asked::Make | Asked::Access(_) => 0,
+        }
+    }
 
-// Of the values that are asked about, those that user u may change a session with value v to.
-pub fn changed_to(
-    basis: Basis,
-    nodes: &[u32],
-    area: &mut [u64],
-    steps: &[u64],
-    plan: Plan,
-    u: u8,
-    v: u8,
-    among: [u64; 4],
-) -> [u64; 4]
-    requires { ChangeReady basis nodes.now plan u steps.now area.old }
-    ensures lanes { Lanes (λ (w : ℕ). (lane_of among w && (model_by basis nodes.now).may_change u v w)) result }
-    ensures change_ready { ChangeReady basis nodes.now plan u steps.now area.new }
-    ensures area_len_unchanged { length area.new ≡ length area.old }
-{
-    let row = row(area, steps, plan, v as usize);
-    lanes::and(among, row)
-}
+    // What is allowed is worked out as far as user `outer` decides it, of an opening or of a change of sessions; the value `outer` of the item, of a change
+    // of items; of all else as far as no item's value does.
+    pub fn begin(&self, asked: Asked, area: &mut [u64], plan: &Plan, outer: u8)
+        requires { PreparedFor self.now asked plan.now area.old }
+        ensures ready { ReadyFor self.now asked plan.now outer area.new }
+        ensures area_len_unchanged { length area.new ≡ length area.old }
+    {
+        plan.begin(area, self.outer_value(asked, outer) as usize);
+    }
 
-// Which sessions may make an item is worked out as far as no item's value decides it.
-pub fn begin_makers(basis: Basis, nodes: &[u32], area: &mut [u64], steps: &[u64], plan: Plan)
-    requires { MakePrepared basis nodes.now plan steps.now area.old }
-    ensures make_ready { MakeReady basis nodes.now plan steps.now area.new }
-    ensures area_len_unchanged { length area.new ≡ length area.old }
-{
-    begin(area, steps, plan, 0);
-}
+    // Of the values that are asked about, those that are allowed with the value `row`: sessions' new values by the value before, the values of sessions
+    // that may make or have access to an item by the item's value, items' new values by the session's value. Of an opening `row` makes no difference.
+    pub fn allowed(
+        &self,
+        asked: Asked,
+        area: &mut [u64],
+        plan: &Plan,
+        outer: u8,
+        row: u8,
+        among: [u64; 4],
+    ) -> [u64; 4]
+        requires formula_bound { formula_of asked < 4 + self.now.permissions }
+        requires ready { ReadyFor self.now asked plan.now outer area.old }
+        ensures lanes { Lanes (λ (v : ℕ). lane_of among v && allows self.now asked outer row v) result }
+        ensures still_ready { ReadyFor self.now asked plan.now outer area.new }
+        ensures area_len_unchanged { length area.new ≡ length area.old }
+    {
+        lanes::and(among, plan.row_at(area, row as usize))
+    }
 
-// Of the session values that are asked about, those that may make an item with value o.
-pub fn makers(
-    basis: Basis,
-    nodes: &[u32],
-    area: &mut [u64],
-    steps: &[u64],
-    plan: Plan,
-    o: u8,
-    among: [u64; 4],
-) -> [u64; 4]
-    requires { MakeReady basis nodes.now plan steps.now area.old }
-    ensures lanes { Lanes (λ (v : ℕ). (lane_of among v && (model_by basis nodes.now).may_make v o)) result }
-    ensures make_ready { MakeReady basis nodes.now plan steps.now area.new }
-    ensures area_len_unchanged { length area.new ≡ length area.old }
-{
-    let row = row(area, steps, plan, o as usize);
-    lanes::and(among, row)
-}
+    // Of the values that are asked about, those that user u may open a session with.
+    pub fn opened_with(&self, area: &mut [u64], plan: &Plan, u: u8, among: [u64; 4]) -> [u64; 4]
+        requires { OpenPrepared self.now plan.now area.old }
+        ensures lanes { Lanes (λ (v : ℕ). (lane_of among v && (ltb u (model_by self.now).users && (model_by self.now).may_open u v))) result }
+        ensures open_prepared { OpenPrepared self.now plan.now area.new }
+        ensures area_len_unchanged { length area.new ≡ length area.old }
+    {
+        if self.users.count <= u {
+            return lanes::none();
+        }
+        self.begin(Asked::Open, area, plan, u);
+        self.allowed(Asked::Open, area, plan, u, 0, among)
+    }
 
-// What an item with value o may be changed to is worked out as far as its value decides it.
-pub fn begin_item(basis: Basis, nodes: &[u32], area: &mut [u64], steps: &[u64], plan: Plan, o: u8)
-    requires { ModifyPrepared basis nodes.now plan steps.now area.old }
-    ensures modify_ready { ModifyReady basis nodes.now plan o steps.now area.new }
-    ensures area_len_unchanged { length area.new ≡ length area.old }
-{
-    begin(area, steps, plan, o as usize);
-}
-
-// Of the values that are asked about, those that a session with value v may change an item with value o to.
-pub fn modified_to(
-    basis: Basis,
-    nodes: &[u32],
-    area: &mut [u64],
-    steps: &[u64],
-    plan: Plan,
-    v: u8,
-    o: u8,
-    among: [u64; 4],
-) -> [u64; 4]
-    requires { ModifyReady basis nodes.now plan o steps.now area.old }
-    ensures lanes { Lanes (λ (n : ℕ). (lane_of among n && (model_by basis nodes.now).may_modify v o n)) result }
-    ensures modify_ready { ModifyReady basis nodes.now plan o steps.now area.new }
-    ensures area_len_unchanged { length area.new ≡ length area.old }
-{
-    let row = row(area, steps, plan, v as usize);
-    lanes::and(among, row)
-}
-
-// Of the session values, one of each kind that the formula for changes of items tells apart: the last.
-pub fn one_of_each(basis: Basis, nodes: &[u32], among: [u64; 4]) -> [u64; 4]
-    ensures { OneOfEach (lists_of basis.classes) (nodes_at basis nodes.now 3) 1 among result }
-{
-    let n = byte_at(&basis.lengths, 3) as usize;
-    alike::one_of_each(basis.classes, nodes, 3, n, 1, among)
-}
-
-// Which sessions have permission p is worked out as far as no item's value decides it.
-pub fn begin_accesses(
-    basis: Basis,
-    nodes: &[u32],
-    area: &mut [u64],
-    steps: &[u64],
-    plan: Plan,
-    p: u8,
-)
-    requires { AccessPrepared basis nodes.now p plan steps.now area.old }
-    ensures access_ready { AccessReady basis nodes.now p plan steps.now area.new }
-    ensures area_len_unchanged { length area.new ≡ length area.old }
-{
-    begin(area, steps, plan, 0);
-}
-
-// Of the session values that are asked about, those that have permission p on an item with value o.
-pub fn accessors(
-    basis: Basis,
-    nodes: &[u32],
-    area: &mut [u64],
-    steps: &[u64],
-    plan: Plan,
-    p: u8,
-    o: u8,
-    among: [u64; 4],
-) -> [u64; 4]
-    requires { (p < basis.permissions) × AccessReady basis nodes.now p plan steps.now area.old }
-    ensures lanes { Lanes (λ (v : ℕ). (lane_of among v && accesses (model_by basis nodes.now) p v o)) result }
-    ensures access_ready { AccessReady basis nodes.now p plan steps.now area.new }
-    ensures area_len_unchanged { length area.new ≡ length area.old }
-{
-    let row = row(area, steps, plan, o as usize);
-    lanes::and(among, row)
+    // Of the session values, one of each kind that the formula for changes of items tells apart: the last.
+    pub fn one_of_each(&self, among: [u64; 4]) -> [u64; 4]
+        ensures { OneOfEach (lists_of self.now.classes) (nodes_at self.now 3) 1 among result }
+    {
+        let n = get_or(&self.lengths, 3, 0) as usize;
+        alike::one_of_each(self.classes, self.nodes, 3, n, 1, among)
+    }
 }

@@ -39,7 +39,7 @@ use Rattle.analyser.proofs.Widths.{sessions-few, items-few, rules-sessions, rule
 use Rattle.user_results.proofs.UsersReach.{user-is, user-lane}
 use Rattle.analyser.proofs.ItemsReach.{ItemSearch, one-search, any-search, good-as}
 use Rattle.analyser.proofs.Hits.{Hit}
-use Rattle.analyser.proofs.Asked.{Asks, session-found, who-found-session, who-found-user, who-found-any, item-found-one, item-found-any, held_of, aim-owner-session, aim-owner-user, aim-value, aim-permission, aim-items, aim-kind, aim-session, stands-open, held-byte, below, few-users, tested}
+use Rattle.analyser.proofs.Asked.{Asks, session-found, who-found-session, who-found-user, who-found-any, item-found-one, item-found-any, held_of, owner_of, acts-session, acts-user, acts-any, aim-value, aim-permission, aim-items, stands-open, held-byte, below, few-users, tested}
 
 named_some : (by : List ℕ) (v : ℕ) → named by v ≡ true → 0 < get_or by v 0
 unfolding named
@@ -97,24 +97,21 @@ module _ (r : Rules) (q : Question) (sound : Sound (policy_of r)) (users : List 
     who-aimed : AsksWho (policy_of r) q.whokind q.who (who_of q) → (v : ℕ) → v < 256 → tested r q sound users found v ≡ true
         → WhoAimed (model_of (policy_of r)) (beginning (policy_of r)) by (own_search r users q) (aim_of r.sessions r.items q v) (who_of q)
     who-aimed (one-session e h w) v l t =
-        rw (w, aim-owner-session r q v e, aim-value r q v l) (
-          aim-kind r q v ∙ e,
-          aim-session r q v,
-          (held_of r q, stands-open r q sound h, held-byte r q sound h, session-found r q e),
+        rw (w, aim-value r q v l) (
+          (owner_of r q, acts-session r q v e, (held_of r q, stands-open r q sound h, held-byte r q sound h, session-found r q e)),
           sym (who-found-session r q users (any_has users) (own_search r users q) v e) ∙ t,
         )
     who-aimed (one-user e h w) v l t =
         let few : q.who < 16 = omega (arith, h, sound.users) in
         let i : q.who < (model_of (policy_of r)).users = omega (arith, h, model-user-count (policy_of r)) in
-        rw (w, aim-owner-user r q v e, aim-value r q v l) (
-          aim-kind r q v ∙ e,
-          refl,
+        rw (w, aim-value r q v l) (
+          acts-user r q v e,
           i,
           sym (ap (λ (x : Found). lane_of x.seen v) (user-of q.who i)) ∙ sym (who-found-user r q users (any_has users) (own_search r users q) v e few) ∙ t,
         )
     who-aimed (any-session e h w) v l t =
         rw (w, aim-value r q v l)
-        (aim-kind r q v ∙ e, names.named-is v l ∙ sym (who-found-any r q users (any_has users) (own_search r users q) v e) ∙ t)
+        (acts-any r q v e, names.named-is v l ∙ sym (who-found-any r q users (any_has users) (own_search r users q) v e) ∙ t)
 
     -- what the analyser has found where there is a hit
     pub hit-aimed : Asks (policy_of r) q → Brought (model_of (policy_of r)) (beginning (policy_of r)) → (i v : ℕ)

@@ -10,7 +10,7 @@ use borrow.Author.Tests.{lt-ltb, eq-eqb, ne_eqb}
 use lib.ListN.{length, get_or}
 use Rattle.lanes.specs.Lanes.{lane_of}
 use Rattle.policy.specs.Policy.{Session, Policy}
-use Rattle.policy.specs.Rules.{values_of, policy_of}
+use Rattle.policy.specs.Rules.{session_at as starting_at, values_of, policy_of}
 use Rattle.policy.specs.declared.Rules.{Rules}
 use Rattle.lists.specs.Sound.{Sound, starting_session}
 use Rattle.lists.proofs.Laws.{listed-byte}
@@ -35,6 +35,7 @@ use Rattle.search.specs.declared.queue.Found.{Found}
 use Rattle.search.proofs.Theorems.{own-is-searched, searched-is-closure}
 use Rattle.analyser.specs.Answer.{session_values, item_values}
 use Rattle.user_results.specs.Found.{user_found, UsersFound, any_has}
+use Rattle.leak.specs.declared.Actor.TheVariants as Acting
 use Rattle.goal.specs.Asked.{item_found, session_found, who_found, aim_of}
 use Rattle.decision.specs.Decide.{own_search}
 use Rattle.analyser.proofs.Widths.{sessions-few, beginning-below, rules-session}
@@ -87,10 +88,10 @@ own-tests m start j u held v byte e h l = (λ t. (u, (held, e, (own_lane m u hel
 module _ (r : Rules) (q : Question) where
   -- the owner and value of the starting session
   abbrev pub owner_of : ℕ
-  owner_of = get_or r.sessions.users q.who 0
+  owner_of = (starting_at r.sessions q.who).user
 
   abbrev pub held_of : ℕ
-  held_of = get_or r.sessions.values q.who 0
+  held_of = (starting_at r.sessions q.who).value
 
   pub session-found : q.whokind ≡ 0 → session_found (model_of (policy_of r)) r.sessions q ≡ own_found (model_of (policy_of r)) owner_of held_of
   unfolding session_found
@@ -117,13 +118,17 @@ module _ (r : Rules) (q : Question) where
   unfolding item_found
   item-found-any helper d = rw (ne_eqb q.itemkind 0 d) refl
 
-  pub aim-owner-session : (v : ℕ) → q.whokind ≡ 0 → (aim_of r.sessions r.items q v).owner ≡ owner_of
+  pub acts-session : (v : ℕ) → q.whokind ≡ 0 → (aim_of r.sessions r.items q v).actor ≡ Acting.Session q.who owner_of
   unfolding aim_of
-  aim-owner-session v e = rw (eq-eqb q.whokind 0 e) refl
+  acts-session v e = rw (eq-eqb q.whokind 0 e) refl
 
-  pub aim-owner-user : (v : ℕ) → q.whokind ≡ 1 → (aim_of r.sessions r.items q v).owner ≡ q.who
+  pub acts-user : (v : ℕ) → q.whokind ≡ 1 → (aim_of r.sessions r.items q v).actor ≡ Acting.User q.who
   unfolding aim_of
-  aim-owner-user v e = rw (ne_eqb q.whokind 0 (λ z. omega arith)) refl
+  acts-user v e = rw (ne_eqb q.whokind 0 (λ z. omega arith), eq-eqb q.whokind 1 e) refl
+
+  pub acts-any : (v : ℕ) → q.whokind ≡ 2 → (aim_of r.sessions r.items q v).actor ≡ Acting.Anyone
+  unfolding aim_of
+  acts-any v e = rw (ne_eqb q.whokind 0 (λ z. omega arith), ne_eqb q.whokind 1 (λ z. omega arith)) refl
 
   pub aim-value : (v : ℕ) → v < 256 → (aim_of r.sessions r.items q v).value ≡ v
   unfolding aim_of
@@ -136,14 +141,6 @@ module _ (r : Rules) (q : Question) where
   pub aim-items : (v : ℕ) → (aim_of r.sessions r.items q v).items ≡ r.items.count
   unfolding aim_of
   aim-items v = refl
-
-  pub aim-kind : (v : ℕ) → (aim_of r.sessions r.items q v).whokind ≡ q.whokind
-  unfolding aim_of
-  aim-kind v = refl
-
-  pub aim-session : (v : ℕ) → (aim_of r.sessions r.items q v).session ≡ q.who
-  unfolding aim_of
-  aim-session v = refl
 
   module _ (sound : Sound (policy_of r)) where
     pub stands-open : q.who < length (policy_of r).sessions → session_at (beginning (policy_of r)) q.who ≡ opened owner_of held_of

@@ -2,12 +2,12 @@
 -- decided is told, and means what is said of runs.
 use mathlib.Core.Path.{◌≡◌, refl, sym, ap, ◌∙◌, subst}
 use mathlib.Core.Bool.{Bool, true, false, cond}
-use mathlib.Core.Logic.{◌⊎◌, inl, inr}
+use Rattle.std.specs.Prelude.{Option, None, Some, MatchOption, is_some, unwrap_or}
 use mathlib.Core.List.{List}
 use mathlib.Core.Option.{none}
 use Prim.Native.Nat.{ℕ, ◌≤◌, ◌<◌}
 use native.Mathlib.Omega.{arith}
-use borrow.Author.Tests.{ltb-true, le-ltb, lt-ltb}
+use borrow.Author.Tests.{le-ltb, lt-ltb}
 use lib.Dec.{ltb}
 use lib.ListN.{length, take, drop}
 use lib.Seq.{length-take-le}
@@ -37,7 +37,8 @@ use Rattle.replay.proofs.Asked.{of-asked}
 use Rattle.replay.proofs.Room.{kind-few}
 use Rattle.replay.proofs.Theorems.{question-is-asked, replay-is-the-run}
 use Rattle.search.specs.declared.queue.Found.{Found}
-use Rattle.analyser.specs.Told.{no_verdict, safe_verdict, leak_verdict, Told, told_of, refused}
+use Rattle.std.specs.Prelude.{Ok}
+use Rattle.analyser.specs.Told.{no_verdict, safe_verdict, leak_verdict, value_of, Told, told_of, refused}
 use Rattle.analyser.specs.Answer.{session_values, item_values, rows_needed, starts_brought, decided, told}
 use Rattle.user_results.specs.Found.{UsersFound}
 use Rattle.decision.specs.Decide.{item_search, leak_place, LeakLeft, DecidedBy}
@@ -70,19 +71,16 @@ rules-same e f = cc
 
 -- verdict and counts of an answer
 abbrev pub told_by : Answer → Told
-told_by a = told_of a.verdict a.pairs a.values
+told_by a = told_of (Ok a)
 
 -- what the cases of a verdict stand for
 
-told_chosen : (b : Bool) (pairs values : ℕ)
-    → told_of (cond b Verdict.Leak Verdict.Safe) pairs values ≡ record { number = 0; verdict = cond b leak_verdict safe_verdict; pairs = pairs; values = values }
-unfolding told_of
-told_chosen true pairs values = refl
-told_chosen false pairs values = refl
-
-pub told-number : (n : ℕ) → told_of (Verdict.Refused n) 0 0 ≡ refused n
-unfolding told_of refused
-told-number n = refl
+told_chosen : (b : Bool) (pairs values rows : ℕ)
+    → told_by record { verdict = cond b Verdict.Leak Verdict.Safe; pairs = pairs; values = values; rows = rows }
+    ≡ record { number = 0; verdict = cond b leak_verdict safe_verdict; pairs = pairs; values = values }
+unfolding told_of value_of
+told_chosen true pairs values rows = refl
+told_chosen false pairs values rows = refl
 
 pub refused_none : (n : ℕ) → (refused n).verdict ≡ no_verdict
 unfolding refused
@@ -176,7 +174,13 @@ module _ (file question before after : List ℕ) (r : Rules) (users : List Found
   hits = ltb (leak_place r users q) 256
 
   told_is : told_by a ≡ record { number = 0; verdict = cond hits leak_verdict safe_verdict; pairs = a.pairs; values = a.values }
-  told_is = ap (λ (b : Bool). told_of (cond b Verdict.Leak Verdict.Safe) a.pairs a.values) D.verdict ∙ told_chosen hits a.pairs a.values
+  told_is =
+      ap (λ (b : Bool). told_by record { verdict = cond b Verdict.Leak Verdict.Safe; pairs = a.pairs; values = a.values; rows = a.rows }) (hit-told d.leak D.leak)
+      ∙ told_chosen hits a.pairs a.values a.rows
+    where
+      hit-told : (o : Option ℕ) → MatchOption o ((256 ≤ leak_place r users q) × (after ≡ before)) (λ n. (leak_place r users q < 256) × LeakLeft r users q before after n) → is_some o ≡ hits
+      hit-told None l = sym (le-ltb (leak_place r users q) 256 l.0)
+      hit-told (Some n) l = sym (lt-ltb (leak_place r users q) 256 l.0)
 
   hits-leak : hits ≡ leaking
   hits-leak = place-agrees r q sound users found asking brought
@@ -197,15 +201,16 @@ module _ (file question before after : List ℕ) (r : Rules) (users : List Found
   -- where there is no hit, and where there is one
   unless : {C : Type 0} → ((told_by a).verdict ≡ safe_verdict → a.rows ≡ 0 → after ≡ before → C)
       → ((told_by a).verdict ≡ leak_verdict → leak_place r users q < 256 → LeakLeft r users q before after a.rows → C) → C
-  unless {C} safe leak = go hits refl D.leak
+  unless {C} safe leak = go d.leak refl D.leak
     where
       verdict-of : (b : Bool) → hits ≡ b → (told_by a).verdict ≡ cond b leak_verdict safe_verdict
       verdict-of b e = ap (λ (t : Told). t.verdict) told_is ∙ ap (λ (x : Bool). cond x leak_verdict safe_verdict) e
 
-      go : (b : Bool) → hits ≡ b → 256 ≤ leak_place r users q ⊎ LeakLeft r users q before after a.rows → C
-      go false e l = let (x, y) = D.safe e in safe (verdict-of false e) x y
-      go true e (inl l) = let h = ltb-true (leak_place r users q) 256 e in absurd (omega arith)
-      go true e (inr L) = leak (verdict-of true e) (ltb-true (leak_place r users q) 256 e) L
+      go : (o : Option ℕ) → d.leak ≡ o → MatchOption o ((256 ≤ leak_place r users q) × (after ≡ before)) (λ n. (leak_place r users q < 256) × LeakLeft r users q before after n) → C
+      go None e l = safe (verdict-of false (le-ltb (leak_place r users q) 256 l.0)) (ap (λ (o : Option ℕ). unwrap_or o 0) e) l.1
+      go (Some n) e l =
+          leak (verdict-of true (lt-ltb (leak_place r users q) 256 l.0)) l.0
+          (subst (LeakLeft r users q before after) (sym (ap (λ (o : Option ℕ). unwrap_or o 0) e)) l.1)
 
   never : (told_by a).verdict ≡ safe_verdict → Never (policy_of r) (who_of q) (which_of q) q.permission
   never v =

@@ -1,22 +1,39 @@
--- An answer that gives a number, as the published promise has it.
-use mathlib.Core.Path.{◌≡◌, sym, subst}
+-- An answer that gives a number, as the published promise has it; and what a file's answer tells.
+use mathlib.Core.Path.{◌≡◌, sym, ap, ◌∙◌}
+use mathlib.Core.Bool.{Bool, true, false}
 use mathlib.Core.List.{List}
 use Prim.Native.Nat.{ℕ}
 use lib.ListN.{length}
-use Rattle.rules.specs.Answers.{reading}
-use Rattle.analyser.specs.Told.{Told, refused}
+use Rattle.std.specs.Prelude.{Result, Ok, Err}
+use Rattle.refusal.specs.declared.Refusal.{Refusal}
+use Rattle.refusal.specs.Number.{number_of}
+use Rattle.policy.specs.Rules.{policy_of}
+use Rattle.policy.specs.declared.Rules.{Rules}
+use Rattle.rules.specs.Answers.{reading, refusal, rules, answer_of}
+use Rattle.analyser.specs.Told.{refused, told_of}
 use Rattle.analyser.specs.Answer.{told}
 use Rattle.analyser.specs.Means.{Means}
-use Rattle.analyser.specs.declared.Answer.{Answer}
-use Rattle.analyser.specs.declared.Verdict.TheVariants as Verdict
-use Rattle.analyser.proofs.Decides.{told_by, told-number, refused-means}
+use Rattle.analyser.proofs.Decides.{refused-means}
 
--- the answer that gives a number
-abbrev pub number : ℕ → Answer
-number n = record { verdict = Verdict.Refused n; pairs = 0; values = 0; rows = 0 }
+pub gives-number : (file question before : List ℕ) (e : Refusal) → told (reading file) question (length before) ≡ refused (number_of e)
+    → Means file question before before (told_of (Err e)) 0
+unfolding told_of
+gives-number file question before e t = refused-means file question before (number_of e) t
 
-pub gives-number : (file question before : List ℕ) (n : ℕ) (x : Answer) → x ≡ number n → told (reading file) question (length before) ≡ refused n
-    → Means file question before before (told_by x) x.rows
-gives-number file question before n x e t =
-    subst (λ (y : Answer). Means file question before before (told_by y) y.rows) (sym e)
-    (subst (λ (y : Told). Means file question before before y 0) (sym (told-number n)) (refused-means file question before n t))
+-- a test of the code is the definition's: it held, or it didn't
+
+pub held : {b t : Bool} → b ≡ t → b ≡ true → t ≡ true
+held e h = sym e ∙ h
+
+pub denied : {b t : Bool} → b ≡ t → b ≡ false → t ≡ false
+denied e h = sym e ∙ h
+
+-- what a file's answer tells
+
+pub was-read : (file : List ℕ) (a : Result Rules Refusal) (r : Rules) → answer_of a ≡ reading file → a ≡ Ok r → reading file ≡ rules (policy_of r)
+unfolding answer_of
+was-read file a r e d = sym e ∙ ap answer_of d
+
+pub was-refused : (file : List ℕ) (a : Result Rules Refusal) (n : Refusal) → answer_of a ≡ reading file → a ≡ Err n → reading file ≡ refusal (number_of n)
+unfolding answer_of
+was-refused file a n e d = sym e ∙ ap answer_of d

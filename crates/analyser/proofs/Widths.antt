@@ -11,9 +11,9 @@ use lib.ListN.{length, get_or}
 use lib.Pow.{pow_mono}
 use Rattle.bits.proofs.Packed.{get_or-tab}
 use Rattle.policy.specs.Policy.{Policy, width}
-use Rattle.policy.specs.Rules.{attrs_of, lists_of, sessions_of, values_of, policy_of}
+use Rattle.policy.specs.Rules.{attrs_of, lists_of, session_at as starting_at, sessions_of, values_of, policy_of}
 use Rattle.policy.specs.declared.Rules.{Rules}
-use Rattle.policy.proofs.Laws.{values_length, sessions-length}
+use Rattle.policy.proofs.Laws.{values_length, sessions-at, sessions-length}
 use Rattle.lists.proofs.Narrow.{listed-narrow}
 use Rattle.lists.specs.Sound.{Sound, starting_session}
 use Rattle.runs.specs.Outcome.{Below}
@@ -82,13 +82,9 @@ module _ (r : Rules) where
   unfolding policy_of
   rules-items-long = values_length r.items
 
-  pub rules-session : (k : ℕ) → k < length (policy_of r).sessions
-      → starting_session (policy_of r) k ≡ record { user = get_or r.sessions.users k 0; value = get_or r.sessions.values k 0 }
-  unfolding policy_of starting_session sessions_of
-  rules-session k h =
-      get_or-tab (λ k. record { user = get_or r.sessions.users k 0; value = get_or r.sessions.values k 0 }) 0 r.sessions.count k record { user = 0; value = 0 }
-      (omega (arith, h, sessions-length r.sessions))
-      ∙ ap (λ (k : ℕ). record { user = get_or r.sessions.users k 0; value = get_or r.sessions.values k 0 }) (let z : 0 + k ≡ k = omega arith in z)
+  pub rules-session : (k : ℕ) → k < length (policy_of r).sessions → starting_session (policy_of r) k ≡ starting_at r.sessions k
+  unfolding policy_of starting_session
+  rules-session k h = sessions-at r.sessions k _ (omega (arith, h, sessions-length r.sessions))
 
   pub rules-item : (k : ℕ) → k < length (policy_of r).items → get_or (policy_of r).items k 0 ≡ get_or r.items.values k 0
   unfolding policy_of values_of

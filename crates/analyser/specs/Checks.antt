@@ -1,6 +1,6 @@
 -- What is asked before a question is decided, and the answer where it is. Private vocabulary: nothing here has to be believed.
 -- Assumes nothing.
-use Rattle.std.specs.Prelude.{Bool, cond, List, ℕ, ◌+◌, ◌*◌, ◌^◌, ltb}
+use Rattle.std.specs.Prelude.{Bool, cond, List, ℕ, ◌+◌, ◌*◌, ◌^◌, ltb, is_some, unwrap_or}
 use Rattle.policy.specs.Rules.{sessions_of}
 use Rattle.policy.specs.declared.Rules.{Rules}
 use Rattle.search.specs.declared.queue.Found.{Found}
@@ -19,4 +19,4 @@ starts_found r users = all_found users (sessions_of r.sessions)
 
 -- the answer of a decision
 abbrev pub answer_by : Decision → Answer
-answer_by d = record { verdict = cond d.leak Verdict.Leak Verdict.Safe; pairs = d.pairs; values = d.values; rows = d.rows }
+answer_by d = record { verdict = cond (is_some d.leak) Verdict.Leak Verdict.Safe; pairs = d.pairs; values = d.values; rows = unwrap_or d.leak 0 }

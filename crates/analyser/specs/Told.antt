@@ -1,6 +1,9 @@
--- What an answer is without its rows, and what each case of the program's verdict stands for [01:The question; How each place should look].
+-- What an answer is without its rows, and what the program's answer stands for [01:The question; How each place should look].
 -- Assumes nothing.
-use Rattle.std.specs.Prelude.{ℕ}
+use Rattle.std.specs.Prelude.{ℕ, Result, Ok, Err}
+use Rattle.refusal.specs.declared.Refusal.{Refusal}
+use Rattle.refusal.specs.Number.{number_of}
+use Rattle.analyser.specs.declared.Answer.{Answer}
 use Rattle.analyser.specs.declared.Verdict.{Verdict}
 
 -- verdicts as values: none, where a number is given; safe; leak
@@ -20,12 +23,21 @@ pub record Told : Type 0 where
   pub pairs : ℕ
   pub values : ℕ
 
--- [01:How each place should look, "Where an answer is an enum"]: what each case of the program's verdict stands for, with the counts beside it
-unfoldable pub told_of : Verdict → ℕ → ℕ → Told
-told_of Verdict.Safe pairs values = record { number = 0; verdict = safe_verdict; pairs = pairs; values = values }
-told_of Verdict.Leak pairs values = record { number = 0; verdict = leak_verdict; pairs = pairs; values = values }
-told_of (Verdict.Refused n) pairs values = record { number = n; verdict = no_verdict; pairs = pairs; values = values }
-
 -- a number is given, and the counts are 0
 unfoldable pub refused : ℕ → Told
 refused n = record { number = n; verdict = no_verdict; pairs = 0; values = 0 }
+
+-- the value of a verdict
+unfoldable pub value_of : Verdict → ℕ
+value_of Verdict.Safe = safe_verdict
+value_of Verdict.Leak = leak_verdict
+
+-- [01:How each place should look, "Where an answer is an enum"]: what the program's answer stands for
+unfoldable pub told_of : Result Answer Refusal → Told
+told_of (Ok a) = record { number = 0; verdict = value_of a.verdict; pairs = a.pairs; values = a.values }
+told_of (Err refusal) = refused (number_of refusal)
+
+-- how many rows the answer has: none, where a number is given
+abbrev pub rows_of : Result Answer Refusal → ℕ
+rows_of (Ok a) = a.rows
+rows_of (Err refusal) = 0

@@ -7,7 +7,7 @@ ghost use Rattle.policy.specs.Rules.{attrs_of, policy_of};
 ghost use Rattle.rules.specs.Answers.{reading, rules as read};
 ghost use Rattle.allowed_rows.specs.Basis.{BasisOf};
 ghost use Rattle.allowed_rows.specs.Scratch.{Scratch};
-ghost use Rattle.analyser.specs.Told.{told_of};
+ghost use Rattle.analyser.specs.Told.{told_of, rows_of};
 ghost use Rattle.analyser.specs.Checks.{rows_for, starts_found, answer_by};
 ghost use Rattle.analyser.specs.Means.{Means};
 
@@ -15,16 +15,16 @@ use allowed_rows::{Basis, basis_of};
 use decision::{Decision, decide};
 use policy::Rules;
 use policy::shape::class_width;
+use refusal::Refusal;
 use replay::question::{Question, asks};
-use rules::{Reading, read_rules};
+use rules::read_rules;
 use search::queue::Found;
 
-// Safe, a leak, or the number that is given instead.
-#[derive(Clone, Copy)]
+// Safe, or a leak.
+#[derive(Clone, Copy, Debug, PartialEq, Eq)]
 pub enum Verdict {
     Safe,
     Leak,
-    Refused(u8),
 }
 
 // The verdict; how many pairs of user and session value can be open; how many values the asked item can have; and the rows of the leak.
@@ -34,18 +34,6 @@ pub struct Answer {
     pub pairs: usize,
     pub values: usize,
     pub rows: usize,
-}
-
-// A number is given.
-fn refused(number: u8) -> Answer
-    ensures { result ≡ record { verdict = Verdict.Refused number; pairs = 0; values = 0; rows = 0 } }
-{
-    Answer {
-        verdict: Verdict::Refused(number),
-        pairs: 0,
-        values: 0,
-        rows: 0,
-    }
 }
 
 // The values that a class of s bits has room for.
@@ -80,82 +68,75 @@ fn widest(rules: Rules) -> usize
     let u = class_width(rules.classes.user);
     let s = class_width(rules.classes.session);
     let o = class_width(rules.classes.item);
-    let m = if u < s { s } else { u };
-    if m < o { o } else { m }
+    u.max(s).max(o)
 }
 
 // Whether the starting sessions could have been brought about by their users, whose sessions' values were searched.
-fn starts_brought(rules: Rules, users: [Found; 16]) -> bool
-    ensures { result ≡ starts_found rules users }
+fn starts_brought(rules: &Rules, users: &[Found; 16]) -> bool
+    ensures { result ≡ starts_found rules.now users.now }
 {
-    user_results::all_brought(users, rules.sessions)
+    user_results::all_brought(users, &rules.sessions)
 }
 
 // The answer to a question that was decided.
 fn answer_of(d: Decision) -> Answer
     ensures { result ≡ answer_by d }
 {
-    let verdict = if d.leak { Verdict::Leak } else { Verdict::Safe };
+    let (verdict, rows) = match d.leak {
+        Some(rows) => (Verdict::Leak, rows),
+        None => (Verdict::Safe, 0),
+    };
     Answer {
         verdict,
         pairs: d.pairs,
         values: d.values,
-        rows: d.rows,
+        rows,
     }
 }
 
 // Answers a question of a file that was read, by the first of 9, 10, 11, or decides it. Formulas are prepared in `area`.
 fn answer_in(
     file: &[u8],
-    rules: Rules,
+    rules: &Rules,
     question: &[u8],
     rows: &mut [u64],
     area: &mut [u64],
-) -> Answer
-    requires file_value { reading file.now ≡ read (policy_of rules) }
-    requires scratch { (b : Basis) (steps : List ℕ) → BasisOf rules b → 192 ≤ length steps → Scratch b steps area.old }
-    ensures { Means file.now question.now rows.old rows.new (told_of result.verdict result.pairs result.values) result.rows }
+) -> Result<Answer, Refusal>
+    requires file_value { reading file.now ≡ read (policy_of rules.now) }
+    requires scratch { (b : Basis) → BasisOf rules.now b → Scratch b area.old }
+    ensures { Means file.now question.now rows.old rows.new (told_of result) (rows_of result) }
 {
     let basis = basis_of(rules);
-    let mut steps = [0u64; 192];
-    let users = user_searches::search_users(rules, basis, area, &mut steps);
-    if !starts_brought(rules, users) {
-        return refused(9);
+    let users = user_searches::search_users(&basis, area);
+    if !starts_brought(rules, &users) {
+        return Err(Refusal::Start);
     }
-    if !asks(rules, question) {
-        return refused(10);
+    if !asks(*rules, question) {
+        return Err(Refusal::Question);
     }
-    if rows.len() < rows_needed(rules) {
-        return refused(11);
+    if rows.len() < rows_needed(*rules) {
+        return Err(Refusal::Room);
     }
     let q = Question::of(question);
-    let decision = decide(rules, users, q, rows, basis, area, &mut steps);
-    answer_of(decision)
+    let decision = decide(rules, &users, q, rows, &basis, area);
+    Ok(answer_of(decision))
 }
 
-// Answers a question of a file: refused by the first of the file's number, 9, 10, 11, and then counts and rows are 0; safe exactly when no run
+// Answers a question of a file: refused by the first of the file's number, 9, 10, 11, and then there is no verdict, count or row; safe exactly when no run
 // of any length grants what is asked; or a leak, whose rows fill the front of `rows`. Unless it is a leak `rows` is as it was.
-pub fn analyse(file: &[u8], question: &[u8], rows: &mut [u64]) -> Answer
-    ensures { Means file.now question.now rows.old rows.new (told_of result.verdict result.pairs result.values) result.rows }
+pub fn analyse(file: &[u8], question: &[u8], rows: &mut [u64]) -> Result<Answer, Refusal>
+    ensures { Means file.now question.now rows.old rows.new (told_of result) (rows_of result) }
 {
-    let parsed = read_rules(file);
-    let answer = parsed.answer;
-    let rules = parsed.rules;
-    match answer {
-        Reading::Refused(n) => {
-            return refused(n);
-        }
-        Reading::Accepted => {}
-    }
+    let rules = read_rules(file).answer?;
     let w = widest(rules);
     if w <= 2 {
         let mut area = [0u64; 1796];
-        return answer_in(file, rules, question, rows, &mut area);
+        return answer_in(file, &rules, question, rows, &mut area);
     }
     if w <= 5 {
         let mut area = [0u64; 8964];
-        return answer_in(file, rules, question, rows, &mut area);
+        return answer_in(file, &rules, question, rows, &mut area);
     }
     let mut area = [0u64; 66308];
-    answer_in(file, rules, question, rows, &mut area)
+    answer_in(file, &rules, question, rows, &mut area)
 }

@@ -8,12 +8,11 @@ use native.Mathlib.Nat.{mod-eq_of_lt, div-eq_of_lt, mul_assoc, one-mul}
 use native.Mathlib.Numerals.{unary_clauses}
 use native.Mathlib.Omega.{arith}
 use borrow.Author.Tests.{le-leb, lt-leb}
-use lib.Bits.{bit_and, and_mask}
 use lib.ListN.{length, get_or}
 use lib.Pow.{pow_pos, pow_mono, shr-shr, shl_exact, high, low, mod-pow-add, mod-mod-pow}
 use lib.Pow as pow
 use Rattle.bits.specs.Field.{bit_at, number_of, number_at, field_at}
-use Rattle.bits.specs.declared.Field.TheVariants.{Value, Absent}
+use Rattle.std.specs.Prelude.{Some, None}
 
 pub bit-lt : (s : List ℕ) (i : ℕ) → bit_at s i < 2
 unfolding bit_at
@@ -179,24 +178,21 @@ number-none s pos = refl
 pub ones : (w : ℕ) → w < 64 → 1 * 2 ^ w % 2 ^ 64 ≡ 2 ^ w
 ones w h = shl_exact 1 w 64 (omega arith) (omega arith) ∙ one-mul (2 ^ w)
 
--- a field is cut out of the four bytes that hold it by a shift and a mask
-pub field_cut : (s : List ℕ) (pos w : ℕ) → w ≤ 24
-    → bit_and (number_at s (8 * (pos / 8)) 32 / 2 ^ (32 - pos % 8 - w)) (1 * 2 ^ w % 2 ^ 64 - 1) ≡ number_at s pos w
+-- a field is cut out of the four bytes that hold it: the last bits of what stands before its end
+pub field_cut : (s : List ℕ) (pos w : ℕ) → w ≤ 24 → number_at s (8 * (pos / 8)) 32 / 2 ^ (32 - pos % 8 - w) % 2 ^ w ≡ number_at s pos w
 unfolding number_at
 field_cut s pos w h =
     let n = 32 - pos % 8 - w in
     let b = number_of (bit_at s) (8 * (pos / 8)) in
-    let v = b 32 / 2 ^ n in
-    ap (λ (z : ℕ). bit_and v (z - 1)) (ones w (omega arith)) ∙ and_mask v w
-    ∙ ap (λ (z : ℕ). b z / 2 ^ n % 2 ^ w) (let e : 32 ≡ pos % 8 + w + n = omega arith in e)
+    ap (λ (z : ℕ). b z / 2 ^ n % 2 ^ w) (let e : 32 ≡ pos % 8 + w + n = omega arith in e)
     ∙ number-middle (bit_at s) (bit-lt s) (8 * (pos / 8)) (pos % 8) w n
     ∙ ap (λ (z : ℕ). number_of (bit_at s) z w) (omega arith)
 
 module _ (s : List ℕ) (pos w : ℕ) where
-  pub field-value : pos + w ≤ 8 * length s → field_at s pos w ≡ Value (number_at s pos w)
+  pub field-value : pos + w ≤ 8 * length s → field_at s pos w ≡ Some (number_at s pos w)
   unfolding field_at
   field-value h = simp (le-leb _ _ h)
 
-  pub field-short : 8 * length s < pos + w → field_at s pos w ≡ Absent
+  pub field-short : 8 * length s < pos + w → field_at s pos w ≡ None
   unfolding field_at
   field-short h = simp (lt-leb _ _ h)

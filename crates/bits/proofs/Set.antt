@@ -11,7 +11,7 @@ use borrow.Author.Tests.{lt-ltb, le-ltb, eq-eqb, eqb-true}
 use lib.Bits.{bit_and, and_shr, and_step, and_lt, and_mask, shifted_even}
 use lib.Dec.{eqb}
 use lib.Pow.{pow_pos, pow-add, shr-shr, shl-shr, mod-mod-pow}
-use Rattle.bits.specs.Set.{size_of, in_set, all_below, subset_of, proper_of}
+use Rattle.bits.specs.Set.{size_of, in_set, all_below, subset_of}
 use Rattle.bits.proofs.Laws.{pow_more, nth, cut-bits}
 
 bit-and : (a b k : ℕ) → bit_and a b / 2 ^ k % 2 ≡ min (a / 2 ^ k % 2) (b / 2 ^ k % 2)
@@ -146,20 +146,7 @@ module _ (n x m y : ℕ) where
 pub shift-mask : (n x : ℕ) → bit_and (x * 2 ^ (8 - size_of n) % 2 ^ 64) 255 ≡ aligned n x
 shift-mask n x = let v = x * 2 ^ (8 - size_of n) in and_mask (v % 2 ^ 64) 8 ∙ mod-mod-pow v 56 8
 
-module _ (n x i : ℕ) where
-  pub member-bit : i < size_of n → in_set n x i ≡ eqb (bit_and (x / 2 ^ (size_of n - 1 - i)) 1) 1
-  unfolding in_set
-  member-bit h = simp (lt-ltb i (size_of n) h, and_mask (x / 2 ^ (size_of n - 1 - i)) 1)
-
-  pub no_member : size_of n ≤ i → in_set n x i ≡ false
-  unfolding in_set
-  no_member h = simp (le-ltb i (size_of n) h)
-
-module _ (n x m y : ℕ) where
-  pub proper-other : subset_of n x m y ≡ true → proper_of n x m y ≡ not (subset_of m y n x)
-  unfolding proper_of
-  proper-other h = simp h
-
-  pub proper-none : subset_of n x m y ≡ false → proper_of n x m y ≡ false
-  unfolding proper_of
-  proper-none h = simp h
+-- nothing past the size is a member
+pub no_member : (n x i : ℕ) → size_of n ≤ i → in_set n x i ≡ false
+unfolding in_set
+no_member n x i h = simp (le-ltb i (size_of n) h)

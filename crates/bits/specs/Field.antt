@@ -1,9 +1,7 @@
 -- Bits of bytes and numbers made of them, most significant first [01:The rule file 1].
 -- The one meaning of "bit i of the bytes" and of "the number at a place of w bits".
 -- Assumes nothing.
-use Rattle.std.specs.Prelude.{cond, List, ℕ, zero, suc, ◌+◌, ◌-◌, ◌*◌, ◌/◌, ◌%◌, ◌^◌, length, get_or, leb}
-use Rattle.bits.specs.declared.Field.{Field}
-use Rattle.bits.specs.declared.Field.TheVariants.{Value, Absent}
+use Rattle.std.specs.Prelude.{cond, List, ℕ, zero, suc, ◌+◌, ◌-◌, ◌*◌, ◌/◌, ◌%◌, ◌^◌, length, get_or, leb, Option, Some, None}
 
 -- bit i of the bytes s
 unfoldable pub bit_at : List ℕ → ℕ → ℕ
@@ -19,5 +17,5 @@ unfoldable pub number_at : List ℕ → ℕ → ℕ → ℕ
 number_at s pos w = number_of (bit_at s) pos w
 
 -- that number, where the place does not run past the end
-unfoldable pub field_at : List ℕ → ℕ → ℕ → Field
-field_at s pos w = cond (leb (pos + w) (8 * length s)) (Value (number_at s pos w)) Absent
+unfoldable pub field_at : List ℕ → ℕ → ℕ → Option ℕ
+field_at s pos w = cond (leb (pos + w) (8 * length s)) (Some (number_at s pos w)) None

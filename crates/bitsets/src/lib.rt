@@ -25,10 +25,7 @@ pub fn store(area: &mut [u64], k: usize, x: [u64; 4])
     ensures rows { Rows (put k (lane_of x) (bit_at area.old)) area.new }
     ensures area_len_unchanged { length area.new ≡ length area.old }
 {
-    area[4 * k] = x[0];
-    area[4 * k + 1] = x[1];
-    area[4 * k + 2] = x[2];
-    area[4 * k + 3] = x[3];
+    area[4 * k..4 * k + 4].copy_from_slice(&x);
 }
 
 // Bit v of row a.
@@ -47,6 +44,7 @@ fn whole(b: bool) -> [u64; 4]
 }
 
 // What a step makes of its row, for the index i.
+#[tactic(auto, unfolding(crate::specs::Steps::does_of, crate::specs::Steps::left_of, crate::specs::Steps::right_of))]
 fn made(area: &[u64], s: u64, i: usize) -> [u64; 4]
     requires { Fits (length area.now) i s }
     ensures { Lanes (step_says (bit_at area.now) i s) result }
@@ -72,9 +70,8 @@ pub fn run(area: &mut [u64], steps: &[u64], first: usize, m: usize, i: usize)
     ensures rows { Rows (ran steps.now first i m (bit_at area.old)) area.new }
     ensures area_len_unchanged { length area.new ≡ length area.old }
 {
-    for j in 0..m {
-        let s = steps[first + j];
-        let x = made(area, s, i);
-        store(area, (s / 4294967296 % 65536) as usize, x);
+    for s in &steps[first..first + m] {
+        let x = made(area, *s, i);
+        store(area, (*s / 4294967296 % 65536) as usize, x);
     }
 }

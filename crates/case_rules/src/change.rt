@@ -1,5 +1,12 @@
 // Rules with one number changed: part by part in the order of PARTS in tests/vectors/make.py. A place beyond its array changes nothing.
-use policy::{Class, Classes, Rules};
+use policy::{Class, Classes, Rules, Sessions};
+
+// One place of an array is set; one beyond its end changes nothing.
+fn set<T: Copy>(places: &mut [T], k: usize, v: T) {
+    if k < places.len() {
+        places[k] = v;
+    }
+}
 
 // The class with its count, a kind, a size or a list number changed.
 fn class_changed(class: Class, what: usize, k: usize, v: u8) -> Class {
@@ -8,134 +15,87 @@ fn class_changed(class: Class, what: usize, k: usize, v: u8) -> Class {
         c.count = v;
         return c;
     }
-    if k < 8 {
+    if let Some(attribute) = c.attributes.get_mut(k) {
         match what {
             1 => {
-                c.kinds[k] = v;
+                attribute.kind = v;
             }
             2 => {
-                c.sizes[k] = v;
+                attribute.size = v;
             }
             _ => {
-                c.lists[k] = v;
+                attribute.list = v;
             }
         }
     }
     c
 }
 
+// The starting sessions with the user of one of them changed, or its value.
+fn sessions_changed(sessions: Sessions, of_user: bool, k: usize, v: u8) -> Sessions {
+    let mut s = sessions;
+    if let Some(session) = s.sessions.get_mut(k) {
+        if of_user {
+            session.user = v;
+        } else {
+            session.value = v;
+        }
+    }
+    s
+}
+
 // The classes with one of them changed: 0 users, 1 sessions, 2 items.
 fn classes_changed(classes: Classes, which: usize, what: usize, k: usize, v: u8) -> Classes {
-    let user = classes.user;
-    let session = classes.session;
-    let item = classes.item;
-    if which == 0 {
-        return Classes {
-            user: class_changed(user, what, k, v),
-            session,
-            item,
-        };
-    }
-    if which == 1 {
-        return Classes {
-            user,
-            session: class_changed(session, what, k, v),
-            item,
-        };
-    }
-    Classes {
-        user,
-        session,
-        item: class_changed(item, what, k, v),
+    match which {
+        0 => Classes {
+            user: class_changed(classes.user, what, k, v),
+            ..classes
+        },
+        1 => Classes {
+            session: class_changed(classes.session, what, k, v),
+            ..classes
+        },
+        _ => Classes {
+            item: class_changed(classes.item, what, k, v),
+            ..classes
+        },
     }
 }
 
-// The rules with a count changed.
-fn counts_changed(rules: Rules, part: usize, v: u8) -> Rules {
-    let mut r = rules;
-    match part {
-        3 => {
-            r.users.count = v;
-        }
-        4 => {
-            r.sessions.count = v;
-        }
-        5 => {
-            r.items.count = v;
-        }
-        6 => {
-            r.permissions = v;
-        }
-        _ => {}
-    }
-    r
-}
-
-// The rules with a count or a value of holders changed.
-fn holders_changed(rules: Rules, part: usize, k: usize, v: u8) -> Rules {
-    let mut r = counts_changed(rules, part, v);
-    let mut users = r.users;
-    let mut sessions = r.sessions;
-    let mut items = r.items;
-    if k < 32 {
-        match part {
-            13 => {
-                users.values[k] = v;
-            }
-            14 => {
-                sessions.users[k] = v;
-            }
-            15 => {
-                sessions.values[k] = v;
-            }
-            16 => {
-                items.values[k] = v;
-            }
-            _ => {}
-        }
-    }
-    r.users = users;
-    r.sessions = sessions;
-    r.items = items;
-    r
-}
-
-// The rules with a formula's length or a node changed.
-fn formulas_changed(rules: Rules, part: usize, k: usize, v: u32) -> Rules {
-    let mut r = rules;
-    if part == 17 {
-        if k < 12 {
-            r.lengths[k] = (v % 256) as u8;
-        }
-        return r;
-    }
-    if k < 768 {
-        r.nodes[k] = v;
-    }
-    r
-}
-
+// The rules with part `part` changed, at place k where it is an array.
 pub(super) fn changed(rules: Rules, part: usize, k: usize, value: usize) -> Rules {
     let v = (value % 4294967296) as u32;
     let b = (value % 256) as u8;
     let mut r = rules;
-    let classes = r.classes;
-    if 19 <= part {
-        r.classes = classes_changed(classes, part - 19, 3, k, b);
-        return r;
-    }
-    if 17 <= part {
-        return formulas_changed(rules, part, k, v);
-    }
-    if part <= 2 {
-        r.classes = classes_changed(classes, part, 0, 0, b);
-        return r;
-    }
-    if 7 <= part {
-        if part <= 12 {
-            r.classes = classes_changed(classes, (part - 7) / 2, 1 + (part - 7) % 2, k, b);
-            return r;
+    match part {
+        0..=2 => {
+            r.classes = classes_changed(rules.classes, part, 0, 0, b);
+        }
+        3 => {
+            r.users.count = b;
+        }
+        4 => {
+            r.sessions.count = b;
+        }
+        5 => {
+            r.items.count = b;
+        }
+        6 => {
+            r.permissions = b;
+        }
+        7..=12 => {
+            r.classes = classes_changed(rules.classes, (part - 7) / 2, 1 + (part - 7) % 2, k, b);
+        }
+        13 => set(&mut r.users.values, k, b),
+        14 | 15 => {
+            r.sessions = sessions_changed(rules.sessions, part == 14, k, b);
+        }
+        16 => set(&mut r.items.values, k, b),
+        17 => set(&mut r.lengths, k, b),
+        18 => set(&mut r.nodes, k, v),
+        _ => {
+            r.classes = classes_changed(rules.classes, part - 19, 3, k, b);
         }
     }
-    holders_changed(rules, part, k, b)
+    r
 }

@@ -7,8 +7,9 @@ ghost use Rattle.std.specs.Prelude.{◌≤◌, ◌<◌, length, IfOk};
 
 mod change;
 
-use policy::Rules;
-use rules::{Reading, Written};
+use bits::get_or;
+use policy::{Rules, no_rules};
+use refusal::Refusal;
 use std::io;
 
 // What the bytes that are written to hold before.
@@ -18,7 +19,7 @@ const BEFORE: u8 = 170;
 fn byte(s: &[u8], i: usize) -> usize
     ensures { result < 256 }
 {
-    if i < s.len() { s[i] as usize } else { 0 }
+    get_or(s, i, 0) as usize
 }
 
 // The number of two bytes from byte i on.
@@ -33,34 +34,22 @@ fn word(s: &[u8], i: usize) -> usize
 fn part(s: &[u8], i: usize, n: usize) -> &[u8]
     requires { (i < 1000000) × (n < 65536) }
 {
-    if i + n <= s.len() {
-        return &s[i..i + n];
-    }
-    &s[0..0]
+    s.get(i..i + n).unwrap_or(&[])
 }
 
 // Whether out is the bytes of want, and then only bytes as they were before.
-fn holds(out: &[u8; 4096], want: &[u8]) -> bool {
-    for i in 0..4096 {
-        let expected = if i < want.len() { want[i] } else { BEFORE };
-        if out[i] != expected {
-            return false;
-        }
-    }
-    true
+fn holds(out: &[u8], want: &[u8]) -> bool {
+    out.starts_with(want) && out[want.len()..].iter().all(|byte| *byte == BEFORE)
 }
 
-fn print_refused(rt: &impl Print, n: u8) -> io::Result<()> {
+fn print_refused(rt: &impl Print, refusal: Refusal) -> io::Result<()> {
+    let n = u8::from(refusal);
     print!(rt; " refused {n}")
 }
 
 fn print_ok(rt: &impl Print, n: usize, right: bool) -> io::Result<()> {
-    print!(rt; " ok {n}")?;
-    if right {
-        print!(rt; " same")
-    } else {
-        print!(rt; " different")
-    }
+    let word = if right { "same" } else { "different" };
+    print!(rt; " ok {n} {word}")
 }
 
 // Writes the rules to room bytes, and prints the answer.
@@ -69,14 +58,13 @@ fn write_case(rt: &impl Print, rules: Rules, room: usize, want: &[u8]) -> io::Re
     if 4096 < room {
         return Ok(());
     }
-    let w = rules::write_rules(rules, &mut out[0..room]);
-    match w {
-        Written::Length(n) => {
+    match rules::write_rules(rules, &mut out[..room]) {
+        Ok(n) => {
             let right = n == want.len() && holds(&out, want);
             print_ok(rt, n, right)?;
         }
-        Written::Refused(n) => {
-            print_refused(rt, n)?;
+        Err(refusal) => {
+            print_refused(rt, refusal)?;
             if !holds(&out, b"") {
                 print!(rt; " touched")?;
             }
@@ -90,13 +78,12 @@ fn read_case(rt: &impl Print, file: &[u8]) -> io::Result<()> {
     let p = rules::read_rules(file);
     let bits = p.bits;
     print!(rt; " {bits} bits,")?;
-    let answer = p.answer;
-    match answer {
-        Reading::Accepted => {
+    match p.answer {
+        Ok(rules) => {
             print!(rt; " read,")?;
-            write_case(rt, p.rules, 4096, file)
+            write_case(rt, rules, 4096, file)
         }
-        Reading::Refused(n) => print_refused(rt, n),
+        Err(refusal) => print_refused(rt, refusal),
     }
 }
 
@@ -105,10 +92,9 @@ fn changed_case(rt: &impl Print, s: &[u8], at: usize, file: &[u8]) -> io::Result
     requires { at < 500000 }
     ensures { IfOk result (λ next. (at < next) × (next < 600000)) }
 {
-    let p = rules::read_rules(file);
     let room = word(s, at);
     let n = byte(s, at + 2);
-    let mut rules = p.rules;
+    let mut rules = rules::read_rules(file).answer.unwrap_or(no_rules());
     let mut i = at + 3;
     for k in 0..n {
         let v = word(s, i + 3) * 65536 + word(s, i + 5);
@@ -128,11 +114,8 @@ fn print_set(rt: &impl Print, what: usize, n: u64, x: u64, m: u64, y: u64) -> io
         1 => bits::subset(x, n, y, m),
         _ => bits::proper(x, n, y, m),
     };
-    if yes {
-        print!(rt; " yes")
-    } else {
-        print!(rt; " no")
-    }
+    let word = if yes { "yes" } else { "no" };
+    print!(rt; " {word}")
 }
 
 // One record. Returns the place after it.

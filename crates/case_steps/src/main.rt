@@ -2,7 +2,8 @@
 // came to and the next numbers after it, and at the end the cells.
 #![tactic(auto)]
 
-use live::{Next, Outcome};
+use live::Next;
+use refusal::Refusal;
 use std::io;
 
 // Rows, each as kind, actor, target, value and spare, and the answer that paper 01 gives, worked out by hand.
@@ -24,52 +25,43 @@ const ROWS: [u64; 12] = [
 // What a cell holds that no step has written.
 const BEFORE: u64 = 7;
 
-fn print_number(rt: &impl Print, n: u64) -> io::Result<()> {
-    print!(rt; " {n}")
-}
-
-fn print_step(rt: &impl Print, outcome: Outcome, next: Next) -> io::Result<()> {
+fn print_step<T: Copy>(rt: &impl Print, outcome: Result<T, Refusal>, next: Next) -> io::Result<()> {
     match outcome {
-        Outcome::Done => {
+        Ok(_) => {
             print!(rt; "done")?;
         }
-        Outcome::Refused(n) => {
-            print!(rt; "refused")?;
-            print_number(rt, n as u64)?;
+        Err(refusal) => {
+            let number = u8::from(refusal);
+            print!(rt; "refused {number}")?;
         }
     }
-    print!(rt; ", next")?;
-    print_number(rt, next.session)?;
-    print_number(rt, next.item)?;
-    println!(rt;)
+    let session = next.session;
+    let item = next.item;
+    println!(rt; ", next {session} {item}")
 }
 
-fn print_cells(rt: &impl Print, cells: [u64; 2]) -> io::Result<()> {
-    print_number(rt, cells[0])?;
-    print_number(rt, cells[1])?;
-    println!(rt;)
+fn print_cells(rt: &impl Print, what: &str, [first, second]: [u64; 2]) -> io::Result<()> {
+    println!(rt; "{what} {first} {second}")
 }
 
 fn main(rt: HostRuntime) -> io::Result<()> {
     // paper 01's counter file
     let file =
         b"\x11\x11\x00\x00\x80\x84\x08\x40\x08\x08\x06\x50\x00\x00\x65\x00\x00\x05\x60\x28\x00\x62\x80\x80\x0E\x28\x08\x15\x82\x84\xC0\x00\x40";
-    let rows = ROWS;
     let mut sessions: [u64; 2] = [BEFORE; 2];
     let mut items: [u64; 2] = [BEFORE; 2];
     let begun = starting::start(file, &mut sessions, &mut items);
-    let rules = begun.rules;
-    let mut next = begun.next;
-    let outcome = begun.outcome;
-    print_step(&rt, outcome, next)?;
-    for k in 0..12 {
-        let s = monitor::step_with(rules, &mut sessions, &mut items, next, rows[k]);
-        let outcome = s.outcome;
-        next = s.next;
-        print_step(&rt, outcome, next)?;
+    let none = Next {
+        session: 0,
+        item: 0,
+    };
+    let mut next = begun.outcome.unwrap_or(none);
+    print_step(&rt, begun.outcome, next)?;
+    for row in ROWS {
+        let stepped = monitor::step_with(begun.rules, &mut sessions, &mut items, next, row);
+        next = stepped.unwrap_or(next);
+        print_step(&rt, stepped, next)?;
     }
-    print!(rt; "sessions")?;
-    print_cells(&rt, sessions)?;
-    print!(rt; "items")?;
-    print_cells(&rt, items)
+    print_cells(&rt, "sessions", sessions)?;
+    print_cells(&rt, "items", items)
 }

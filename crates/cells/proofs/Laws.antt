@@ -1,5 +1,5 @@
 -- Laws of cells. In order: what a test picks; places, and a cell that is written; the next number; the codes; sessions: what a cell codes, what
--- the lent cells say, a further number given, a cell written; items, alike; sessions and items as the program reads them.
+-- the lent cells say, a further number given, a cell written; items, alike.
 -- Not here: rows (Rows).
 use mathlib.Core.Path.{◌≡◌, refl, sym, ap, ◌∙◌, subst}
 use mathlib.Core.Bool.{Bool, true, false, ◌&&◌, cond}
@@ -8,17 +8,17 @@ use mathlib.Core.Option.{Option, none, some}
 use Prim.Native.Nat.{ℕ, ◌+◌, ◌*◌, ◌/◌, ◌%◌, ◌≤◌, ◌<◌}
 use native.Mathlib.Decide.{dec_lt}
 use native.Mathlib.Omega.{arith}
-use borrow.Author.Tests.{ltb-true, lt-ltb, le-ltb, eqb-true, eq-eqb, ne_eqb}
+use borrow.Author.Tests.{ltb-true, lt-ltb, le-ltb, eqb-true}
 use lib.Dec.{ltb, eqb}
 use lib.ListN.{length, get_or, set, length-set, get_or-eq_default}
 use lib.Seq.{get_or-set_same, get_or-set_other}
 use Rattle.bits.proofs.Set.{both_true}
 use Rattle.runs.specs.State.{Session, closed, opened}
 use Rattle.runs.proofs.Laws.{not-closed}
-use Rattle.cells.specs.Cell.{place_of, open_cell, closed_cell, item_cell, session_in, session_at, item_in, item_at, session_read, item_read}
+use Rattle.std.specs.Prelude.{Option as Read, Some, None}
+use Rattle.cells.specs.Cell.{place_of, open_cell, closed_cell, item_cell, session_in, session_at, session_read, item_in, item_at}
+use Rattle.cells.specs.declared.Session.{Session as OpenSession}
 use Rattle.cells.specs.Claims.{SessionThere, ItemThere}
-use Rattle.cells.specs.declared.SessionRead.{SessionRead}
-use Rattle.cells.specs.declared.ItemRead.{ItemRead}
 
 module _ {A : Type 0} where
   cond_same : (b : Bool) (x : A) → cond b x x ≡ x
@@ -84,10 +84,6 @@ pub open_is : (u v : ℕ) → open_cell u v ≡ 65536 + 256 * u + v
 unfolding open_cell
 open_is u v = refl
 
-pub closed_is : closed_cell ≡ 0
-unfolding closed_cell
-closed_is = refl
-
 pub item-is : (v : ℕ) → item_cell v ≡ 65536 + v
 unfolding item_cell
 item-is v = refl
@@ -132,26 +128,6 @@ module _ (users : ℕ) (listed : ℕ → Bool) where
     session-is : (next k c : ℕ) → k < next → get_or cells (place_of k) 0 ≡ c → session_at users listed cells next k ≡ session_in users listed c
     unfolding session_at
     session-is next k c h e = simp (lt-ltb k next h, e)
-
-    -- each way that a cell can read
-    module _ (next k c : ℕ) (h : k < next) (e : c ≡ get_or cells (place_of k) 0) where
-      pub session-unmarked : (c / 65536 ≡ 1 → ⊥) → session_at users listed cells next k ≡ closed
-      unfolding session_in
-      session-unmarked n = session-is next k c h (sym e) ∙ simp (ne_eqb (c / 65536) 1 n)
-
-      pub session-unknown : c / 65536 ≡ 1 → users ≤ c / 256 % 256 → session_at users listed cells next k ≡ closed
-      unfolding session_in
-      session-unknown m n = session-is next k c h (sym e) ∙ simp (eq-eqb (c / 65536) 1 m, le-ltb (c / 256 % 256) users n)
-
-      session-by : c / 65536 ≡ 1 → c / 256 % 256 < users → session_at users listed cells next k ≡ cond (listed (c % 256)) (opened (c / 256 % 256) (c % 256)) closed
-      unfolding session_in
-      session-by m w = session-is next k c h (sym e) ∙ simp (eq-eqb (c / 65536) 1 m, lt-ltb (c / 256 % 256) users w)
-
-      pub session-unlisted : c / 65536 ≡ 1 → c / 256 % 256 < users → listed (c % 256) ≡ false → session_at users listed cells next k ≡ closed
-      session-unlisted m w l = session-by m w ∙ simp l
-
-      pub session-marked : c / 65536 ≡ 1 → c / 256 % 256 < users → listed (c % 256) ≡ true → session_at users listed cells next k ≡ opened (c / 256 % 256) (c % 256)
-      session-marked m w l = session-by m w ∙ simp l
 
     -- what is there where a session is read
     pub session-reads : (next k u v : ℕ) → session_at users listed cells next k ≡ opened u v → SessionThere users listed cells next k u v
@@ -220,31 +196,10 @@ module _ (listed : ℕ → Bool) where
       simp (e₀, e₁, l)
 
   module _ (cells : List ℕ) where
-    -- a number that was not given
-    pub item-past : (next k : ℕ) → next ≤ k → item_at listed cells next k ≡ none
-    unfolding item_at
-    item-past next k h = simp (le-ltb k next h)
-
     -- a number that was given
     item-given : (next k c : ℕ) → k < next → get_or cells (place_of k) 0 ≡ c → item_at listed cells next k ≡ item_in listed c
     unfolding item_at
     item-given next k c h e = simp (lt-ltb k next h, e)
-
-    -- each way that a cell can read
-    module _ (next k c : ℕ) (h : k < next) (e : c ≡ get_or cells (place_of k) 0) where
-      pub item-unmarked : (c / 256 ≡ 256 → ⊥) → item_at listed cells next k ≡ none
-      unfolding item_in
-      item-unmarked n = item-given next k c h (sym e) ∙ simp (ne_eqb (c / 256) 256 n)
-
-      item_by : c / 256 ≡ 256 → item_at listed cells next k ≡ cond (listed (c % 256)) (some (c % 256)) none
-      unfolding item_in
-      item_by m = item-given next k c h (sym e) ∙ simp (eq-eqb (c / 256) 256 m)
-
-      pub item-unlisted : c / 256 ≡ 256 → listed (c % 256) ≡ false → item_at listed cells next k ≡ none
-      item-unlisted m l = item_by m ∙ simp l
-
-      pub item-marked : c / 256 ≡ 256 → listed (c % 256) ≡ true → item_at listed cells next k ≡ some (c % 256)
-      item-marked m l = item_by m ∙ simp l
 
     -- what is there where an item is read
     pub item-reads : (next k v : ℕ) → item_at listed cells next k ≡ some v → ItemThere listed cells next k v
@@ -278,34 +233,12 @@ module _ (listed : ℕ → Bool) where
   unfolding item_at
   item-other cells next j k c n = ap (λ (c : ℕ). cond (ltb j next) (item_in listed c) none) (unwritten cells j k c n)
 
--- sessions and items as the program reads them
+-- what the program reads of a session
 
-module _ {t : Session} where
-  pub read_opened : (u v : ℕ) → t ≡ opened u v → session_read t ≡ record { there = true; user = u; value = v }
-  unfolding session_read
-  read_opened u v e = ap session_read e
-
-  pub read-closed : t ≡ closed → session_read t ≡ record { there = false; user = 0; value = 0 }
-  unfolding session_read
-  read-closed e = ap session_read e
-
-module _ {t : Option ℕ} where
-  pub read_some : (v : ℕ) → t ≡ some v → item_read t ≡ record { there = true; value = v }
-  unfolding item_read
-  read_some v e = ap item_read e
-
-  pub read_none : t ≡ none → item_read t ≡ record { there = false; value = 0 }
-  unfolding item_read
-  read_none e = ap item_read e
-
--- the session that was read
-pub session-of-read : (t : Session) (r : SessionRead) → r ≡ session_read t → t ≡ cond r.there (opened r.user r.value) closed
+pub read-closed : Path (Read OpenSession) (session_read closed) None
 unfolding session_read
-session-of-read closed r e = rw e refl
-session-of-read (opened u v) r e = rw e refl
+read-closed = refl
 
--- the item that was read
-pub item-of-read : (t : Option ℕ) (r : ItemRead) → r ≡ item_read t → t ≡ cond r.there (some r.value) none
-unfolding item_read
-item-of-read none r e = rw e refl
-item-of-read (some v) r e = rw e refl
+pub read-opened : (u v : ℕ) → Path (Read OpenSession) (session_read (opened u v)) (Some record { user = u; value = v })
+unfolding session_read
+read-opened u v = refl

@@ -1,11 +1,10 @@
 -- How the lent cells code sessions and items, and what a lent cell says [01:Steps, "A lent state that no run left is taken as it reads";
 -- docs/CELLS.md]. A session cell is 65536 + 256 * user + value, an item cell 65536 + value; 0 is a closed session, or nothing.
 -- Assumes nothing.
-use Rattle.std.specs.Prelude.{Bool, false, true, ◌&&◌, cond, List, ℕ, ◌+◌, ◌*◌, ◌/◌, ◌%◌, ltb, eqb, get_or}
+use Rattle.std.specs.Prelude.{Bool, ◌&&◌, cond, List, ℕ, ◌+◌, ◌*◌, ◌/◌, ◌%◌, ltb, eqb, get_or, Option as Read, Some, None}
 use Rattle.std.proofs.Math.Option.{Option, none, some}
 use Rattle.runs.specs.State.{Session, closed, opened}
-use Rattle.cells.specs.declared.SessionRead.{SessionRead}
-use Rattle.cells.specs.declared.ItemRead.{ItemRead}
+use Rattle.cells.specs.declared.Session.{Session as OpenSession}
 
 -- the cell that holds a number: cell i for number i
 unfoldable pub place_of : ℕ → ℕ
@@ -44,12 +43,12 @@ module _ (listed : ℕ → Bool) where
   unfoldable pub item_at : List ℕ → ℕ → ℕ → Option ℕ
   item_at cells next k = cond (ltb k next) (item_in (get_or cells (place_of k) 0)) none
 
--- a session as the program reads it: where none is open, zeros
-unfoldable pub session_read : Session → SessionRead
-session_read closed = record { there = false; user = 0; value = 0 }
-session_read (opened user value) = record { there = true; user = user; value = value }
+-- a session as the program reads it
+unfoldable pub session_read : Session → Read OpenSession
+session_read closed = None
+session_read (opened user value) = Some record { user = user; value = value }
 
--- an item as the program reads it: where there is none, a zero
-unfoldable pub item_read : Option ℕ → ItemRead
-item_read none = record { there = false; value = 0 }
-item_read (some value) = record { there = true; value = value }
+-- an item's value as the program reads it
+unfoldable pub item_read : Option ℕ → Read ℕ
+item_read none = None
+item_read (some value) = Some value

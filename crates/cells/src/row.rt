@@ -2,6 +2,8 @@
 ghost use Rattle.std.specs.Prelude.{◌≡◌};
 ghost use Rattle.cells.specs.Row.{parts_of, bits_of};
 
+use super::kind::Kind;
+
 // The parts of a row, any numbers.
 #[derive(Clone, Copy)]
 pub struct Row {
@@ -13,18 +15,18 @@ pub struct Row {
 }
 
 impl Row {
-    // The kinds.
-    pub const OPEN: u64 = 1;
+    // The numbers of the kinds.
+    pub const OPEN: u64 = Kind::Open as u64;
 
-    pub const CLOSE: u64 = 2;
+    pub const CLOSE: u64 = Kind::Close as u64;
 
-    pub const CHANGE_SESSION: u64 = 3;
+    pub const CHANGE_SESSION: u64 = Kind::ChangeSession as u64;
 
-    pub const MAKE: u64 = 4;
+    pub const MAKE: u64 = Kind::Make as u64;
 
-    pub const CHANGE_ITEM: u64 = 5;
+    pub const CHANGE_ITEM: u64 = Kind::ChangeItem as u64;
 
-    pub const ACCESS: u64 = 6;
+    pub const ACCESS: u64 = Kind::Access as u64;
     // The fields' widths, most significant first.
     pub const KIND_BITS: u64 = 4;
 

@@ -1,13 +1,10 @@
 -- What deciding comes to. In order: the rows that were written; where the first leak is; the verdict and the counts.
 use mathlib.Core.Path.{◌≡◌, refl, sym, ap, ap₂, ◌∙◌, subst}
-use mathlib.Core.Bool.{Bool, true, false, cond}
 use mathlib.Core.List.{List, []}
-use mathlib.Core.Logic.{inl, inr}
+use Rattle.std.specs.Prelude.{None, Some}
 use Prim.Native.Nat.{ℕ, ◌≤◌, ◌<◌}
 use native.Mathlib.Omega.{arith}
-use borrow.Author.Tests.{lt-ltb, le-ltb}
-use lib.Dec.{ltb}
-use lib.ListN.{length, take, get_or}
+use lib.ListN.{length, take}
 use Rattle.lanes.specs.Lanes.{lane_of, Lanes}
 use Rattle.policy.specs.Rules.{policy_of, sessions_of}
 use Rattle.policy.specs.declared.Rules.{Rules}
@@ -15,7 +12,6 @@ use Rattle.policy.specs.declared.Sessions.{Sessions}
 use Rattle.policy.specs.declared.Values.{Values}
 use Rattle.runs.specs.Model.{Model}
 use Rattle.allowed.specs.Allowed.{model_of}
-use Rattle.search.specs.Searched.{depth_at}
 use Rattle.search.specs.declared.queue.Found.{Found}
 use Rattle.session_rows.specs.Writing.{Writing, writing_of, Wrote}
 use Rattle.leak.specs.Leak.{leak_written}
@@ -30,7 +26,7 @@ use Rattle.decision.specs.declared.Decision.{Decision}
 use Rattle.decision.specs.Decide.{LeakLeftBy, item_search, own_search, leak_place, leak_value, DecidedBy}
 use Rattle.hits.proofs.Laws.{hit-inside, hit-value-ext, hit-place-ext}
 use Rattle.goal.proofs.Questions.{who-ext}
-use Rattle.goal.proofs.Helpers.{item-ext, item-shallow}
+use Rattle.goal.proofs.Helpers.{item-ext}
 
 -- the rows that were written
 module _ (users : List Found) (starting : Sessions) (items : Values) (q : Question) (found own : Found) (place value : ℕ) (before after : List ℕ)
@@ -60,25 +56,14 @@ module _ (r : Rules) (users : List Found) (q : Question) where
   leak-value = refl
 
 -- the searches and the first hit, of a model m that is the rules'
-module _ (r : Rules) (users : List Found) (q : Question) (m : Model) (M : m ≡ model_of (policy_of r)) (helpers : List ℕ) (items own : Found) (who : List ℕ) (hit : Hit)
+module _ (r : Rules) (users : List Found) (q : Question) (m : Model) (M : m ≡ model_of (policy_of r)) (helpers : List ℕ) (items own : Found) (who : List ℕ)
     (H : Lanes (any_has users) helpers) (itemed : items ≡ item_found m r.items (lane_of helpers) q) (owned : own ≡ session_found m r.sessions q)
-    (W : Lanes (who_found users (lane_of helpers) own q) who)
-    (found : (hit.place ≡ hit_place m q.permission (lane_of who) items) × (hit.value ≡ cond (ltb hit.place 256) (hit_value m q.permission (lane_of who) items hit.place) 256)) where
-  abbrev place : ℕ
-  place = hit.place
-
+    (W : Lanes (who_found users (lane_of helpers) own q) who) where
   I : items ≡ item_found (model_of (policy_of r)) r.items (lane_of helpers) q
   I = itemed ∙ ap (λ (x : Model). item_found x r.items (lane_of helpers) q) M
 
   O : own ≡ own_search r users q
   O = owned ∙ ap (λ (x : Model). session_found x r.sessions q) M
-
-  P : place ≡ hit_place (model_of (policy_of r)) q.permission (lane_of who) items
-  P = found.0 ∙ ap (λ (x : Model). hit_place x q.permission (lane_of who) items) M
-
-  -- the value of a hit, where there is one
-  hit-value : place < 256 → hit.value ≡ hit_value (model_of (policy_of r)) q.permission (lane_of who) items place
-  hit-value h = found.1 ∙ ap (λ (b : Bool). cond b (hit_value m q.permission (lane_of who) items place) 256) (lt-ltb place 256 h) ∙ ap (λ (x : Model). hit_value x q.permission (lane_of who) items place) M
 
   items-are : items ≡ item_search r users q
   items-are = I ∙ item-ext (model_of (policy_of r)) r.items q _ _ H.each
@@ -86,52 +71,43 @@ module _ (r : Rules) (users : List Found) (q : Question) (m : Model) (M : m ≡ 
   who-are : (v : ℕ) → v < 256 → lane_of who v ≡ who_found users (any_has users) (own_search r users q) q v
   who-are v h = W.each v h ∙ who-ext users (lane_of helpers) (any_has users) own q v (H.each v h) ∙ ap (λ (o : Found). who_found users (any_has users) o q v) O
 
-  place_is : place ≡ leak_place r users q
+  place_is : hit_place m q.permission (lane_of who) items ≡ leak_place r users q
   place_is =
-      P ∙ hit-place-ext (model_of (policy_of r)) q.permission items _ _ who-are
+      ap (λ (x : Model). hit_place x q.permission (lane_of who) items) M ∙ hit-place-ext (model_of (policy_of r)) q.permission items _ _ who-are
       ∙ ap (λ (i : Found). hit_place (model_of (policy_of r)) q.permission (who_found users (any_has users) (own_search r users q) q) i) items-are ∙ leak-place r users q
 
-  value-is : place < 256 → hit.value ≡ leak_value r users q
-  value-is h =
-      hit-value h ∙ hit-value-ext (model_of (policy_of r)) q.permission items _ _ who-are place
-      ∙ ap₂ (λ (i : Found) (p : ℕ). hit_value (model_of (policy_of r)) q.permission (who_found users (any_has users) (own_search r users q) q) i p) items-are place_is
-      ∙ leak-value r users q
-
-  -- the place is one of the search, not deep
-  pub place-shallow : q.item < 256 → r.items.count < 256 → ((k : ℕ) → get_or r.items.values k 0 < 256) → place < 256 → depth_at items place < 256
-  place-shallow hq hc byte h =
-      subst (λ (i : Found). depth_at i place < 256) (sym I)
-      (item-shallow (model_of (policy_of r)) r.items q (lane_of helpers) place hq hc byte
-      (subst (λ (i : Found). place < i.len) I
-      (subst (λ (p : ℕ). p < items.len) (sym P)
-      (hit-inside (model_of (policy_of r)) q.permission items (lane_of who) (subst (λ (p : ℕ). p < 256) P h)))))
-
   module _ (before : List ℕ) (d : Decision) (pairs : d.pairs ≡ found_pairs users 16) (values : d.values ≡ items.len) where
-    pub decided-safe : d.leak ≡ false → d.rows ≡ 0 → 256 ≤ place → DecidedBy r users q before before d
-    decided-safe v n h =
+    -- there is no hit
+    pub decided-safe : d.leak ≡ None → hit_place m q.permission (lane_of who) items ≡ 256 → DecidedBy r users q before before d
+    decided-safe v e =
         let far : 256 ≤ leak_place r users q = omega (arith, place_is) in
-        record {
-          verdict = v ∙ sym (le-ltb (leak_place r users q) 256 far);
-          pairs = pairs;
-          values = values ∙ ap (λ (i : Found). i.len) items-are;
-          safe = λ e. (n, refl);
-          leak = inl far;
-        }
+        record { pairs = pairs; values = values ∙ ap (λ (i : Found). i.len) items-are; leak = rw v (far, refl) }
 
-    pub decided-leak : place < 256 → d.leak ≡ true → (after : List ℕ)
-        → LeakLeftBy users r.sessions r.items q items own place hit.value before after d.rows → DecidedBy r users q before after d
-    decided-leak near v after L =
-        let l : leak_place r users q < 256 = omega (arith, place_is) in
-        let t : ltb (leak_place r users q) 256 ≡ true = lt-ltb (leak_place r users q) 256 l in
+  -- there is one
+  module _ (hit : Hit) (at : (hit.place ≡ hit_place m q.permission (lane_of who) items) × (hit.place < 256) × (hit.value ≡ hit_value m q.permission (lane_of who) items hit.place)) where
+    value-is : hit.value ≡ leak_value r users q
+    value-is =
+        at.2 ∙ ap (λ (x : Model). hit_value x q.permission (lane_of who) items hit.place) M ∙ hit-value-ext (model_of (policy_of r)) q.permission items _ _ who-are hit.place
+        ∙ ap₂ (λ (i : Found) (p : ℕ). hit_value (model_of (policy_of r)) q.permission (who_found users (any_has users) (own_search r users q) q) i p) items-are (at.0 ∙ place_is)
+        ∙ leak-value r users q
+
+    -- the place is one of the search
+    pub place-inside : hit.place < items.len
+    place-inside =
+        subst (λ (p : ℕ). p < items.len) (sym at.0) (hit-inside m q.permission items (lane_of who) (subst (λ (p : ℕ). p < 256) at.0 at.1))
+
+    pub decided-leak : (before after : List ℕ) (d : Decision) (n : ℕ) → d.pairs ≡ found_pairs users 16 → d.values ≡ items.len → d.leak ≡ Some n
+        → LeakLeftBy users r.sessions r.items q items own hit.place hit.value before after n → DecidedBy r users q before after d
+    decided-leak before after d n pairs values v L =
+        let l : leak_place r users q < 256 = omega (arith, place_is, at.0, at.1) in
         record {
-          verdict = v ∙ sym t;
           pairs = pairs;
           values = values ∙ ap (λ (i : Found). i.len) items-are;
-          safe = λ e. absurd (let z : ◌≡◌ {A = ℕ} 0 1 = cc in omega arith);
-          leak = inr (
-              subst (λ (i : Found). LeakLeftBy users r.sessions r.items q i (own_search r users q) (leak_place r users q) (leak_value r users q) before after d.rows) items-are
-              (subst (λ (o : Found). LeakLeftBy users r.sessions r.items q items o (leak_place r users q) (leak_value r users q) before after d.rows) O
-              (subst (λ (k : ℕ). LeakLeftBy users r.sessions r.items q items own k (leak_value r users q) before after d.rows) place_is
-              (subst (λ (x : ℕ). LeakLeftBy users r.sessions r.items q items own place x before after d.rows) (value-is near) L)))
-              );
+          leak = rw v (
+            l,
+            subst (λ (i : Found). LeakLeftBy users r.sessions r.items q i (own_search r users q) (leak_place r users q) (leak_value r users q) before after n) items-are
+                (subst (λ (o : Found). LeakLeftBy users r.sessions r.items q items o (leak_place r users q) (leak_value r users q) before after n) O
+                (subst (λ (k : ℕ). LeakLeftBy users r.sessions r.items q items own k (leak_value r users q) before after n) (at.0 ∙ place_is)
+                (subst (λ (x : ℕ). LeakLeftBy users r.sessions r.items q items own hit.place x before after n) value-is L))),
+          );
         }

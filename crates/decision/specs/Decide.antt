@@ -1,6 +1,6 @@
 -- What deciding a question comes to, in terms of the searches. Private vocabulary: nothing here has to be believed.
 -- Assumes nothing.
-use Rattle.std.specs.Prelude.{◌≡◌, false, ◌⊎◌, List, [], ℕ, ◌≤◌, ltb, length, take, drop}
+use Rattle.std.specs.Prelude.{◌≡◌, List, [], ℕ, ◌≤◌, ◌<◌, length, take, drop, MatchOption}
 use Rattle.policy.specs.Rules.{policy_of, sessions_of}
 use Rattle.policy.specs.declared.Rules.{Rules}
 use Rattle.policy.specs.declared.Sessions.{Sessions}
@@ -49,10 +49,8 @@ module _ (r : Rules) (users : List Found) (q : Question) where
   abbrev pub LeakLeft : List ℕ → List ℕ → ℕ → Type 0
   LeakLeft = LeakLeftBy users r.sessions r.items q item_search own_search leak_place leak_value
 
-  -- whether there is a leak, counts and rows
+  -- counts, and whether there is a leak: its rows, or rows that stay as they were
   pub record DecidedBy (before after : List ℕ) (d : Decision) : Type 0 where
-    pub verdict : d.leak ≡ ltb leak_place 256
     pub pairs : d.pairs ≡ found_pairs users 16
     pub values : d.values ≡ item_search.len
-    pub safe : ltb leak_place 256 ≡ false → (d.rows ≡ 0) × (after ≡ before)
-    pub leak : 256 ≤ leak_place ⊎ LeakLeft before after d.rows
+    pub leak : MatchOption d.leak ((256 ≤ leak_place) × (after ≡ before)) (λ n. (leak_place < 256) × LeakLeft before after n)

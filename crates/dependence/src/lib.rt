@@ -1,7 +1,7 @@
 // Which nodes of a formula depend on a holder.
 #![tactic(auto)]
 
-ghost use Rattle.std.specs.Prelude.{◌≡◌, false, ◌&&◌, ℕ, ◌+◌, ◌*◌, ◌≤◌, ltb, length, get_or};
+ghost use Rattle.std.specs.Prelude.{◌≡◌, false, ◌&&◌, ◌+◌, ◌*◌, ◌≤◌, ltb, length, get_or};
 ghost use Rattle.dependence.specs.Depends.{depends_at, Depends};
 
 // Whether node j stands before node k and depends on the holder.
@@ -9,30 +9,23 @@ fn before(d: &[bool], j: usize, k: usize) -> bool
     requires { k ≤ length d.now }
     ensures { result ≡ ltb j k && get_or d.now j false }
 {
-    if j < k {
-        return d[j];
-    }
-    false
+    j < k && d[j]
 }
 
 // Whether node k depends on holder h, where that is known of the nodes before it.
+#[tactic(auto, unfolding(crate::specs::Depends::depends_at, policy::specs::Nodes::op_of, policy::specs::Nodes::first_of, policy::specs::Nodes::second_of, policy::specs::Nodes::holder_of))]
 fn depends_at(d: &[bool], node: u32, k: usize, h: u32) -> bool
     requires { k ≤ length d.now }
     ensures { result ≡ depends_at (λ j. get_or d.now j false) node k h }
 {
-    let op = node / 65536;
     let a = node / 256 % 256;
     let b = node % 256;
-    if op < 2 {
-        return false;
+    match node / 65536 {
+        0 | 1 => false,
+        2 => before(d, a as usize, k),
+        3 | 4 => before(d, a as usize, k) || before(d, b as usize, k),
+        _ => a / 32 == h || b / 32 == h,
     }
-    if op == 2 {
-        return before(d, a as usize, k);
-    }
-    if op < 5 {
-        return before(d, a as usize, k) | before(d, b as usize, k);
-    }
-    (a / 32 == h) | (b / 32 == h)
 }
 
 // Which of the n nodes of formula f depend on holder h.

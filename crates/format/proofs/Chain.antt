@@ -1,148 +1,24 @@
--- Laws for functions that read a format step by step, a cursor going along. In order: what a cursor stands for, one step after another,
--- each way of building a format, what the program gives for a number that was read, rows, a whole file.
+-- Laws for functions that read a format part by part, each lent the same reader. In order: results one after another, what was read under another view,
+-- each way of building a format, a whole file.
 -- Not here: storing (Store).
 use mathlib.Core.Path.{◌≡◌, refl, sym, ap, ◌∙◌}
-use mathlib.Core.Bool.{Bool, true, false, cond, ◌&&◌}
-use mathlib.Core.List.{List, [], ◌∷◌, ◌++◌}
+use mathlib.Core.Bool.{Bool, true, false, ◌&&◌}
+use mathlib.Core.List.{List}
 use Prim.Native.Nat.{ℕ, zero, suc, ◌+◌, ◌-◌, ◌*◌, ◌%◌, ◌≤◌, ◌<◌}
-use native.Mathlib.Decide.{dec_lt}
 use native.Mathlib.Omega.{arith}
-use borrow.Author.Tests.{eq-eqb, ne_eqb, le-leb, le-ltb, leb-true, ltb-true}
+use borrow.Author.Tests.{le-leb, le-ltb, leb-true, ltb-true, ne_eqb}
 use lib.Dec.{eqb, leb, ltb}
 use lib.ListN.{length}
-use Rattle.format.specs.Format.{Res, ok, bad, Format, tested, and_then, taken, field, check, rows_read, rows, pair, via, zeros, within}
+use Rattle.std.specs.Prelude.{Result, Ok, Err, IsErrAnd}
+use Rattle.std.proofs.lemmas.Result.{err_from_is_err_and}
+use Rattle.std.specs.Ordering.{nat_cmp, is_le, is_lt}
+use Rattle.std.proofs.lemmas.Bool.Decides.{nat_tests}
+use Rattle.refusal.specs.declared.Refusal.{Refusal}
+use Rattle.refusal.specs.Number.{number_of}
+use Rattle.format.specs.Format.{Res, ok, bad, Format, tested, and_then, taken, field, check, pair, via, zeros, within}
 use Rattle.format.specs.File.{ended, read_file}
-use Rattle.format.specs.Steps.{from, res_of, taken_of, judged}
-use Rattle.format.specs.declared.Cursor.{Cursor}
-use Rattle.format.specs.declared.Taken.{Taken}
-use Rattle.format.proofs.Fault.{judged-holds, judged-fails, judged-before}
-use Rattle.format.proofs.Refuses.{taken-only, refuses-field}
-
-module _ {A : Type 0} where
-  pub from-good : (c : Cursor) (k : ℕ → Res A) → c.number ≡ 0 → from c k ≡ k c.pos
-  unfolding from
-  from-good c k z = simp (eq-eqb _ _ z)
-
-  pub from-bad : (c : Cursor) (k : ℕ → Res A) → 0 < c.number → from c k ≡ bad c.number c.pos
-  unfolding from
-  from-bad c k z = simp (ne_eqb c.number 0 (λ e. omega arith))
-
-  pub res-is : (c : Cursor) (a : A) → res_of c a ≡ from c (ok a)
-  unfolding res_of
-  res-is c a = refl
-
-  pub res-good : (c : Cursor) (a : A) → c.number ≡ 0 → res_of c a ≡ ok a c.pos
-  unfolding res_of
-  res-good c a z = from-good c (ok a) z
-
-  pub res-bad : (c : Cursor) (a : A) → 0 < c.number → res_of c a ≡ bad c.number c.pos
-  unfolding res_of
-  res-bad c a z = from-bad c (ok a) z
-
-  pub res-any : (c : Cursor) (a b : A) → 0 < c.number → res_of c a ≡ res_of c b
-  res-any c a b z = res-bad c a z ∙ sym (res-bad c b z)
-
-  -- a number given before stays
-  pub chain-skip : (k : ℕ → Res A) (c : Cursor) (a : A) → 0 < c.number → res_of c a ≡ from c k
-  chain-skip k c a z = res-bad c a z ∙ sym (from-bad c k z)
-
-module _ {A B : Type 0} where
-  cond-then : (b : Bool) (r : Res A) (n p : ℕ) (k : A → ℕ → Res B) → and_then (cond b r (bad n p)) k ≡ cond b (and_then r k) (bad n p)
-  unfolding and_then
-  cond-then true r n p k = refl
-  cond-then false r n p k = refl
-
-  from_then : (c : Cursor) (r : ℕ → Res A) (k : A → ℕ → Res B) → and_then (from c r) k ≡ from c (λ q. and_then (r q) k)
-  unfolding from
-  from_then c r k = cond-then (eqb c.number 0) (r c.pos) c.number c.pos k
-
-  res-then : (c : Cursor) (a : A) (k : A → ℕ → Res B) → and_then (res_of c a) k ≡ from c (k a)
-  unfolding res_of and_then
-  res-then c a k = from_then c (ok a) k
-
-  -- what comes after a step goes on from the cursor that the step left
-  pub chain : (r : ℕ → Res A) (k : A → ℕ → Res B) (c₀ c₁ : Cursor) (a : A) → res_of c₁ a ≡ from c₀ r → from c₀ (λ q. and_then (r q) k) ≡ from c₁ (k a)
-  chain r k c₀ c₁ a e = sym (from_then c₀ r k) ∙ ap (λ (x : Res A). and_then x k) (sym e) ∙ res-then c₁ a k
-
-  then_same : (r : Res A) (k l : A → ℕ → Res B) → ((a : A) (q : ℕ) → k a q ≡ l a q) → and_then r k ≡ and_then r l
-  unfolding and_then
-  then_same (bad n q) k l h = refl
-  then_same (ok a q) k l h = h a q
-
-module _ {A : Type 0} where
-  -- only what stands at the place reached counts
-  pub from-same : (c : Cursor) (k l : ℕ → Res A) → k c.pos ≡ l c.pos → from c k ≡ from c l
-  unfolding from
-  from-same c k l e = ap (λ (r : Res A). cond (eqb c.number 0) r (bad c.number c.pos)) e
-
-  res-judged : (c : Cursor) (b : Bool) (n : ℕ) (a : A) → 0 < n → res_of (judged c b n) a ≡ from c (λ q. tested b n a q)
-  unfolding tested
-  res-judged c b n a z = go b (dec_lt 0 c.number)
-    where
-      go : (b : Bool) → Dec (0 < c.number) → res_of (judged c b n) a ≡ from c (λ q. tested b n a q)
-      go b (yes h) = ap (λ (x : Cursor). res_of x a) (judged-before c b n h) ∙ res-bad c a h ∙ sym (from-bad c _ h)
-      go true (no h) = ap (λ (x : Cursor). res_of x a) (judged-holds c n) ∙ res-is c a
-      go false (no h) =
-          let o : c.number ≡ 0 = omega arith in
-          ap (λ (x : Cursor). res_of x a) (judged-fails c n o) ∙ res-bad record { number = n; pos = c.pos; taken = c.taken } a z ∙ sym (from-good c (λ q. bad n q) o)
-
-  pub chain-check : (f : Format A) (t : A → Bool) (n : ℕ) (s : List ℕ) (c₀ c₁ : Cursor) (a : A) (b : Bool) → res_of c₁ a ≡ from c₀ (f.read s) → b ≡ t a → 0 < n
-      → res_of (judged c₁ b n) a ≡ from c₀ ((check f t n).read s)
-  unfolding check
-  chain-check f t n s c₀ c₁ a b e d z =
-      res-judged c₁ b n a z ∙ ap (λ (x : Bool). from c₁ (λ q. tested x n a q)) d ∙ sym (chain (f.read s) (λ a q. tested (t a) n a q) c₀ c₁ a e)
-
-pub chain-field : (w : ℕ) (t : ℕ → Bool) (n : ℕ) (s : List ℕ) (c₀ c₁ : Cursor) (x : ℕ) (b : Bool) → res_of c₁ x ≡ from c₀ (λ q. taken s q w) → b ≡ t x → 0 < n
-    → res_of (judged c₁ b n) x ≡ from c₀ ((field w t n).read s)
-unfolding field
-chain-field w t n s c₀ c₁ x b e d z =
-    res-judged c₁ b n x z ∙ ap (λ (y : Bool). from c₁ (λ q. tested y n x q)) d ∙ sym (chain (λ q. taken s q w) (λ x q. tested (t x) n x q) c₀ c₁ x e)
-
-pub field-same : (w : ℕ) (t u : ℕ → Bool) (n : ℕ) (s : List ℕ) (c : Cursor) → ((x : ℕ) → t x ≡ u x) → from c ((field w t n).read s) ≡ from c ((field w u n).read s)
-unfolding field
-field-same w t u n s c h = from-same c _ _ (then_same (taken s c.pos w) _ _ (λ x q. ap (λ (b : Bool). tested b n x q) (h x)))
-
--- what stands for a result, with 0 beside a number, is what the program gives for it
-pub taken_is : (t : Taken) (r : Res ℕ) → res_of t.at t.value ≡ r → (0 < t.at.number → t.value ≡ 0) → t.at.taken ≡ t.at.pos → t ≡ taken_of r
-unfolding taken_of
-taken_is t r e v o = go (dec_lt 0 t.at.number)
-  where
-    q : ℕ
-    q = t.at.pos
-
-    go : Dec (0 < t.at.number) → t ≡ taken_of r
-    go (yes h) =
-        rw (sym e ∙ res-bad t.at t.value h)
-        (ap (λ (x : ℕ). record { at = t.at; value = x }) (v h) ∙ ap (λ (k : ℕ). record { at = record { number = t.at.number; pos = q; taken = k }; value = 0 }) o)
-    go (no h) =
-        let z : t.at.number ≡ 0 = omega arith in
-        rw (sym e ∙ res-good t.at t.value z)
-        (ap (λ (n : ℕ). record { at = record { number = n; pos = q; taken = t.at.taken }; value = t.value }) z
-        ∙ ap (λ (k : ℕ). record { at = record { number = 0; pos = q; taken = k }; value = t.value }) o)
-
--- and it stands for that result, unless it is a refusal by 0
-res-taken : (t : Taken) (r : Res ℕ) → t ≡ taken_of r → ((n q : ℕ) → r ≡ bad n q → 0 < n) → res_of t.at t.value ≡ r
-unfolding taken_of
-res-taken t (ok x q) e h = rw e (res-good record { number = 0; pos = q; taken = q } x refl)
-res-taken t (bad n q) e h = rw e (res-bad record { number = n; pos = q; taken = q } 0 (h n q refl))
-
--- a cursor adds no refusal by 0
-from-only : (c : Cursor) (k : ℕ → Res ℕ) → ((n q : ℕ) → k c.pos ≡ bad n q → 0 < n) → (n q : ℕ) → from c k ≡ bad n q → 0 < n
-from-only c k h n q e = go (dec_lt 0 c.number)
-  where
-    go : Dec (0 < c.number) → 0 < n
-    go (yes z) = let d : bad c.number c.pos ≡ bad n q = sym (from-bad c k z) ∙ e in let m : c.number ≡ n = cc in omega arith
-    go (no z) = h n q (sym (from-good c k (omega arith)) ∙ e)
-
--- what `take` gives stands for the next w bits
-pub res-bits : (s : List ℕ) (c : Cursor) (w : ℕ) (t : Taken) → t ≡ taken_of (from c (λ q. taken s q w)) → res_of t.at t.value ≡ from c (λ q. taken s q w)
-res-bits s c w t e = res-taken t _ e (from-only c (λ q. taken s q w) (λ n q d. taken-only (λ m. 0 < m) s c.pos w n q (omega arith) d))
-
--- what `read_field` gives stands for the field
-pub res-field : (w : ℕ) (u : ℕ → Bool) (n : ℕ) (s : List ℕ) (c : Cursor) (t : Taken) → 0 < n → t ≡ taken_of (from c ((field w u n).read s))
-    → res_of t.at t.value ≡ from c ((field w u n).read s)
-res-field w u n s c t z e =
-    res-taken t _ e (from-only c ((field w u n).read s) (λ m q d. (refuses-field (λ k. 0 < k) s w u n c.pos (omega arith) z).only m q d))
+use Rattle.format.specs.Reads.{any, res_of, Reads}
+use Rattle.format.specs.declared.file_reader.FileReader.{FileReader}
 
 -- only 0 is from 0 up to, not including, 1
 pub within-zero : (x : ℕ) → within 0 1 x ≡ eqb 0 x
@@ -158,57 +34,185 @@ within-true lo end x e = let (a, b) = both (leb lo x) (ltb x end) e in (leb-true
     both true b e = (refl, e)
     both false b e = absurd (let z : ◌≡◌ {A = ℕ} 0 1 = cc in omega arith)
 
-module _ {A B : Type 0} where
-  pub chain-pair : (f : Format A) (g : A → Format B) (s : List ℕ) (c₀ c₁ c₂ : Cursor) (a : A) (b : B) → res_of c₁ a ≡ from c₀ (f.read s) → res_of c₂ b ≡ from c₁ ((g a).read s)
-      → res_of c₂ (a, b) ≡ from c₀ ((pair f g).read s)
-  unfolding pair res_of
-  chain-pair f g s c₀ c₁ c₂ a b e d = sym (chain (f.read s) _ c₀ c₁ a e ∙ chain ((g a).read s) (λ b r. ok (a, b) r) c₁ c₂ b d)
+-- the test of a range is that of a field
+pub within-range : (lo end x : ℕ) → (is_le (nat_cmp lo x) && is_lt (nat_cmp x end)) ≡ within lo end x
+unfolding within
+within-range lo end x = grind (arith, nat_tests)
 
-  pub chain-via : (to : B → A) (back : A → B) (f : Format A) (s : List ℕ) (c₀ c₁ : Cursor) (a : A) → res_of c₁ a ≡ from c₀ (f.read s)
-      → res_of c₁ (back a) ≡ from c₀ ((via to back f).read s)
-  unfolding via res_of
-  chain-via to back f s c₀ c₁ a e = sym (chain (f.read s) (λ a q. ok (back a) q) c₀ c₁ a e)
+-- the view of a result that is a refusal
+abbrev pub no_view : {A : Type 0} → ⊥ → A
+no_view x = absurd x
 
-pub chain-zeros : {A : Type 0} (f : Format A) (w n : ℕ) (s : List ℕ) (c₀ c₁ c₂ : Cursor) (a : A) (x : ℕ) → res_of c₁ a ≡ from c₀ (f.read s)
-    → res_of c₂ x ≡ from c₁ ((field w (within 0 1) n).read s) → res_of c₂ a ≡ from c₀ ((zeros f w n).read s)
-unfolding zeros
-chain-zeros f w n s c₀ c₁ c₂ a x e d =
-    chain-via _ _ _ s _ _ _ (chain-pair f (λ _. field w (eqb 0) n) s _ _ _ _ _ e (d ∙ field-same w (within 0 1) (eqb 0) n s c₁ within-zero))
+-- a refusal ends all that would come
+stop : {A B : Type 0} {x : Res A} (n q : ℕ) (k : A → ℕ → Res B) → bad n q ≡ x → bad n q ≡ and_then x k
+unfolding and_then
+stop n q k e = ap (λ (y : Res _). and_then y k) e
 
-module _ {A : Type 0} (f : List A → Format A) (s : List ℕ) where
-  pub rows-begin : (n : ℕ) (c : Cursor) → from c ((rows n f).read s) ≡ from c (rows_read f s [] n)
-  unfolding rows
-  rows-begin n c = refl
+-- what comes next goes on from what was read
+go_on : {A B : Type 0} {x : Res A} (a : A) (q : ℕ) (k : A → ℕ → Res B) → ok a q ≡ x → k a q ≡ and_then x k
+unfolding and_then
+go_on a q k e = ap (λ (y : Res _). and_then y k) e
 
-  rows_next : (l : List A) (n : ℕ) (c c' : Cursor) (a : A) → res_of c' a ≡ from c ((f l).read s) → from c (rows_read f s l (suc n)) ≡ from c' (rows_read f s (l ++ a ∷ []) n)
-  unfolding rows_read
-  rows_next l n c c' a e = chain ((f l).read s) (λ a q. rows_read f s (l ++ a ∷ []) n q) c c' a e
+res-maps : {A C D : Type 0} (to : A → C) (w : D → A) (o : Result D Refusal) (q : ℕ) → res_of (λ d. to (w d)) o q ≡ and_then (res_of w o q) (λ a p. ok (to a) p)
+unfolding and_then
+res-maps to w (Ok d) q = refl
+res-maps to w (Err e) q = refl
 
-  pub rows-turn : (l : List A) (n i : ℕ) (c c' : Cursor) (a : A) → i < n → res_of c' a ≡ from c ((f l).read s)
-      → from c (rows_read f s l (n - i)) ≡ from c' (rows_read f s (l ++ a ∷ []) (n - (i + 1)))
-  rows-turn l n i c c' a h e =
-      ap (λ (m : ℕ). from c (rows_read f s l m)) (let z : n - i ≡ suc (n - (i + 1)) = omega arith in z) ∙ rows_next l (n - (i + 1)) c c' a e
+-- what was read, under another view and another bound
 
-  rows_none : (l : List A) (c : Cursor) → from c (rows_read f s l 0) ≡ res_of c l
-  unfolding rows_read res_of
-  rows_none l c = refl
+module _ {A B D : Type 0} {f : Format A} {m : ℕ} {v : B → A} {w : D → A} {r r' : FileReader} where
+  pub shown : (b : B) {d : D} (most : ℕ) → Reads f m w r r' (Ok d) → w d ≡ v b → m ≤ most → Reads f most v r r' (Ok b)
+  shown b most h e k = record { answer = ap (λ (a : A). ok a r'.bits.at) (sym e) ∙ h.answer; source = h.source; near = omega (arith, h.near) }
 
-  pub rows_end : (l : List A) (n i : ℕ) (c : Cursor) → n ≤ i → from c (rows_read f s l (n - i)) ≡ res_of c l
-  rows_end l n i c h = ap (λ (m : ℕ). from c (rows_read f s l m)) (let z : n - i ≡ 0 = omega arith in z) ∙ rows_none l c
+  pub refuses : {e : Refusal} (most : ℕ) → Reads f m w r r' (Err e) → m ≤ most → Reads f most v r r' (Err e)
+  refuses most h k = record { answer = h.answer; source = h.source; near = omega (arith, h.near) }
 
-module _ {A : Type 0} (f : Format A) (s : List ℕ) where
-  pub chain-file : (c₀ c₁ c₂ : Cursor) (a : A) (x : ℕ) (b : Bool) → c₀.number ≡ 0 → c₀.pos ≡ 0 → res_of c₁ a ≡ from c₀ (f.read s)
-      → res_of c₂ x ≡ from c₁ ((field ((8 - c₁.pos % 8) % 8) (within 0 1) 3).read s) → b ≡ eqb c₂.pos (8 * length s)
-      → res_of (judged c₂ b 3) a ≡ read_file f s
-  unfolding read_file ended
-  chain-file c₀ c₁ c₂ a x b z p e d t =
-      let w = (8 - c₁.pos % 8) % 8 in
-      let k : ℕ → ℕ → Res A = λ x r. tested (eqb r (8 * length s)) 3 a r in
-      sym
-      (ap (λ (q : ℕ). and_then (f.read s q) (λ a q. ended s a q)) (sym p)
-      ∙ sym (from-good c₀ _ z)
-      ∙ chain (f.read s) (λ a q. ended s a q) c₀ c₁ a e
-      ∙ from-same c₁ (λ q. ended s a q) (λ q. and_then ((field w (eqb 0) 3).read s q) k) refl
-      ∙ chain ((field w (eqb 0) 3).read s) k c₁ c₂ x (d ∙ field-same w (within 0 1) (eqb 0) 3 s c₁ within-zero)
-      ∙ from-same c₂ (k x) (λ q. tested b 3 a q) (ap (λ (y : Bool). tested y 3 a c₂.pos) (sym t))
-      ∙ sym (res-judged c₂ b 3 a (omega arith)))
+  -- a refusal that was passed on
+  pub refused : {e : Refusal} (most : ℕ) (o : Result B Refusal) → IsErrAnd o (λ y. y ≡ e) → Reads f m w r r' (Err e) → m ≤ most → Reads f most v r r' o
+  refused {e} most o p h k =
+      let q = err_from_is_err_and o p in rw (q.1, q.2) (refuses most h k)
+
+-- each way of building a format
+
+untested : (r : Res ℕ) → and_then r (λ x q. tested true 1 x q) ≡ r
+unfolding and_then tested
+untested (bad n q) = refl
+untested (ok x q) = refl
+
+pub any-is : (w : ℕ) (s : List ℕ) (q : ℕ) → (any w).read s q ≡ taken s q w
+unfolding any field
+any-is w s q = untested (taken s q w)
+
+module _ (w : ℕ) (t : ℕ → Bool) {m : ℕ} {v : ℕ → ℕ} {r r' : FileReader} where
+  pub field-stops : {e : Refusal} (n : ℕ) → Reads (any w) m v r r' (Err e) → Reads (field w t n) m no_view r r' (Err e)
+  unfolding field
+  field-stops {e} n h =
+      record { answer = stop (number_of e) r'.bits.at (λ x q. tested (t x) n x q) (h.answer ∙ any-is w r.bits.src.now r.bits.at); source = h.source; near = h.near }
+
+  pub field-holds : {x : ℕ} (n : ℕ) → Reads (any w) m v r r' (Ok x) → t (v x) ≡ true → Reads (field w t n) m v r r' (Ok x)
+  unfolding field tested
+  field-holds {x} n h e =
+      record {
+        answer =
+            ap (λ (b : Bool). tested b n (v x) r'.bits.at) (sym e)
+            ∙ go_on (v x) r'.bits.at (λ x q. tested (t x) n x q) (h.answer ∙ any-is w r.bits.src.now r.bits.at);
+        source = h.source;
+        near = h.near;
+      }
+
+  pub field-fails : {x : ℕ} (e : Refusal) → Reads (any w) m v r r' (Ok x) → t (v x) ≡ false → Reads (field w t (number_of e)) m no_view r r' (Err e)
+  unfolding field tested
+  field-fails {x} e h g =
+      record {
+        answer =
+            ap (λ (b : Bool). tested b (number_of e) (v x) r'.bits.at) (sym g)
+            ∙ go_on (v x) r'.bits.at (λ x q. tested (t x) (number_of e) x q) (h.answer ∙ any-is w r.bits.src.now r.bits.at);
+        source = h.source;
+        near = h.near;
+      }
+
+module _ {A B : Type 0} (f : Format A) (t : A → Bool) {m : ℕ} {v : B → A} {r r' : FileReader} where
+  pub check-stops : {e : Refusal} (n : ℕ) → Reads f m v r r' (Err e) → Reads (check f t n) m no_view r r' (Err e)
+  unfolding check
+  check-stops {e} n h = record { answer = stop (number_of e) r'.bits.at (λ x q. tested (t x) n x q) h.answer; source = h.source; near = h.near }
+
+  pub check-holds : {b : B} (n : ℕ) → Reads f m v r r' (Ok b) → t (v b) ≡ true → Reads (check f t n) m v r r' (Ok b)
+  unfolding check tested
+  check-holds {b} n h e =
+      record {
+        answer = ap (λ (x : Bool). tested x n (v b) r'.bits.at) (sym e) ∙ go_on (v b) r'.bits.at (λ x q. tested (t x) n x q) h.answer;
+        source = h.source;
+        near = h.near;
+      }
+
+  pub check-fails : {b : B} (e : Refusal) → Reads f m v r r' (Ok b) → t (v b) ≡ false → Reads (check f t (number_of e)) m no_view r r' (Err e)
+  unfolding check tested
+  check-fails {b} e h g =
+      record {
+        answer = ap (λ (x : Bool). tested x (number_of e) (v b) r'.bits.at) (sym g) ∙ go_on (v b) r'.bits.at (λ x q. tested (t x) (number_of e) x q) h.answer;
+        source = h.source;
+        near = h.near;
+      }
+
+module _ {A B C : Type 0} (f : Format A) (g : A → Format C) {m : ℕ} {v : B → A} {r r' : FileReader} where
+  pub pair-stops : {e : Refusal} → Reads f m v r r' (Err e) → Reads (pair f g) m no_view r r' (Err e)
+  unfolding pair
+  pair-stops {e} h =
+      record {
+        answer = stop (number_of e) r'.bits.at (λ a q. and_then ((g a).read r.bits.src.now q) (λ c p. ok (a, c) p)) h.answer;
+        source = h.source;
+        near = h.near;
+      }
+
+  pub pair-goes : {D : Type 0} {m' : ℕ} {r'' : FileReader} {w : D → C} {b : B} {o : Result D Refusal} → Reads f m v r r' (Ok b) → Reads (g (v b)) m' w r' r'' o
+      → Reads (pair f g) (m + m') (λ d. (v b, w d)) r r'' o
+  unfolding pair
+  pair-goes {r''} {w} {b} {o} h k =
+      record {
+        answer =
+            res-maps (λ c. (v b, c)) w o r''.bits.at
+            ∙ ap (λ (x : Res C). and_then x (λ c p. ok (v b, c) p)) (k.answer ∙ ap (λ (s : _). (g (v b)).read s.now r'.bits.at) h.source)
+            ∙ go_on (v b) r'.bits.at (λ a q. and_then ((g a).read r.bits.src.now q) (λ c p. ok (a, c) p)) h.answer;
+        source = k.source ∙ h.source;
+        near = omega (arith, k.near, h.near);
+      }
+
+module _ {A C D : Type 0} (to : C → A) (back : A → C) (f : Format A) {m : ℕ} {w : D → A} {r r' : FileReader} where
+  pub via-reads : {o : Result D Refusal} → Reads f m w r r' o → Reads (via to back f) m (λ d. back (w d)) r r' o
+  unfolding via
+  via-reads {o} h =
+      record { answer = res-maps back w o r'.bits.at ∙ ap (λ (x : Res A). and_then x (λ a p. ok (back a) p)) h.answer; source = h.source; near = h.near }
+
+then_same : (x : Res ℕ) (k l : ℕ → ℕ → Res ℕ) → ((a q : ℕ) → k a q ≡ l a q) → and_then x k ≡ and_then x l
+unfolding and_then
+then_same (bad n q) k l h = refl
+then_same (ok a q) k l h = h a q
+
+field-same : (w n : ℕ) (s : List ℕ) (q : ℕ) → (field w (within 0 1) n).read s q ≡ (field w (eqb 0) n).read s q
+unfolding field
+field-same w n s q = then_same (taken s q w) _ _ (λ x p. ap (λ (b : Bool). tested b n x p) (within-zero x))
+
+zero-bits : {D : Type 0} {u : D → ℕ} {m : ℕ} {r r' : FileReader} {o : Result D Refusal} (w n : ℕ) → Reads (field w (within 0 1) n) m u r r' o → Reads (field w (eqb 0) n) m u r r' o
+zero-bits {r} w n h = record { answer = h.answer ∙ field-same w n r.bits.src.now r.bits.at; source = h.source; near = h.near }
+
+module _ {A B : Type 0} (f : Format A) (w n : ℕ) {m : ℕ} {v : B → A} {r r' : FileReader} where
+  pub zeros-stops : {e : Refusal} → Reads f m v r r' (Err e) → Reads (zeros f w n) m no_view r r' (Err e)
+  unfolding zeros
+  zeros-stops h = refuses _ (via-reads _ _ _ (pair-stops f (λ _. field w (eqb 0) n) h)) (omega arith)
+
+  pub zeros-goes : {D : Type 0} {m' : ℕ} {r'' : FileReader} {u : D → ℕ} {b : B} {o : Result D Refusal} → Reads f m v r r' (Ok b) → Reads (field w (within 0 1) n) m' u r' r'' o
+      → Reads (zeros f w n) (m + m') (λ d. v b) r r'' o
+  unfolding zeros
+  zeros-goes h k = via-reads _ _ _ (pair-goes f (λ _. field w (eqb 0) n) h (zero-bits w n k))
+
+-- a whole file: the format, the filling bits and the end
+
+from_start : {A : Type 0} (f : Format A) (r : FileReader) → r.bits.at ≡ 0 → read_file f r.bits.src.now ≡ and_then (f.read r.bits.src.now r.bits.at) (λ a q. ended r.bits.src.now a q)
+unfolding read_file
+from_start f r start = ap (λ (q : ℕ). and_then (f.read r.bits.src.now q) (λ a q. ended r.bits.src.now a q)) (sym start)
+
+module _ {A B : Type 0} (f : Format A) {m : ℕ} {v : B → A} {r r' : FileReader} (start : r.bits.at ≡ 0) where
+  pub file-stops : {e : Refusal} → Reads f m v r r' (Err e) → bad (number_of e) r'.bits.at ≡ read_file f r.bits.src.now
+  file-stops {e} h = stop (number_of e) r'.bits.at (λ a q. ended r.bits.src.now a q) h.answer ∙ sym (from_start f r start)
+
+  module _ {b : B} (h : Reads f m v r r' (Ok b)) where
+    -- the filling bits follow what was read
+    followed : ended r'.bits.src.now (v b) r'.bits.at ≡ read_file f r.bits.src.now
+    followed =
+        ap (λ (s : _). ended s.now (v b) r'.bits.at) h.source
+        ∙ go_on (v b) r'.bits.at (λ a q. ended r.bits.src.now a q) h.answer
+        ∙ sym (from_start f r start)
+
+    module _ {r'' : FileReader} {m' : ℕ} {u : ℕ → ℕ} where
+      pub file-unfilled : {e : Refusal} → Reads (field ((8 - r'.bits.at % 8) % 8) (within 0 1) 3) m' u r' r'' (Err e) → bad (number_of e) r''.bits.at ≡ read_file f r.bits.src.now
+      unfolding ended
+      file-unfilled {e} g =
+          stop (number_of e) r''.bits.at (λ x q. tested (eqb q (8 * length r'.bits.src.now)) 3 (v b) q) (zero-bits _ 3 g).answer ∙ followed
+
+      pub file-ends : {x : ℕ} (t : Bool) → Reads (field ((8 - r'.bits.at % 8) % 8) (within 0 1) 3) m' u r' r'' (Ok x) → t ≡ eqb r''.bits.at (8 * length r''.bits.src.now)
+          → tested t 3 (v b) r''.bits.at ≡ read_file f r.bits.src.now
+      unfolding ended
+      file-ends {x} t g e =
+          ap (λ (y : Bool). tested y 3 (v b) r''.bits.at) (e ∙ ap (λ (s : _). eqb r''.bits.at (8 * length s.now)) g.source)
+          ∙ go_on (u x) r''.bits.at (λ x q. tested (eqb q (8 * length r'.bits.src.now)) 3 (v b) q) (zero-bits _ 3 g).answer
+          ∙ followed

@@ -1,145 +1,250 @@
--- Laws for functions that judge a value and store its fields, a cursor going along. In order: one step after another,
--- each way of building a format, rows, a whole file.
+-- Laws for functions that judge a value and store its fields, giving the place after them or a refusal. In order: a step that is refused, one step
+-- after another, each way of building a format, rows, a whole file.
 -- Not here: reading (Chain).
-use mathlib.Core.Path.{◌≡◌, refl, sym, ap, ◌∙◌}
-use mathlib.Core.Bool.{Bool, true}
+use mathlib.Core.Path.{◌≡◌, refl, sym, ap, subst, ◌∙◌}
+use mathlib.Core.Bool.{Bool, true, false}
+use mathlib.Core.Logic.{◌⊎◌, inl, inr}
 use mathlib.Core.List.{List, [], ◌∷◌, ◌++◌, append_assoc, append-nil}
 use mathlib.Core.Option.{Option, none, some}
-use Prim.Native.Nat.{ℕ, zero, suc, ◌+◌, ◌^◌, ◌≤◌, ◌<◌}
-use native.Mathlib.Numerals.{add-one}
+use Prim.Native.Nat.{ℕ, zero, suc, ◌+◌, ◌-◌, ◌^◌, ◌≤◌, ◌<◌}
 use native.Mathlib.Omega.{arith}
 use lib.Dec.{eqb, ltb}
 use lib.ListN.{length, drop}
-use Rattle.bits.specs.Packed.{widths, packed, puts}
-use Rattle.bits.proofs.Packed.{widths-app}
+use Rattle.std.specs.Prelude.{Result, Ok, Err, IfOk, IsErrAnd}
+use Rattle.std.proofs.lemmas.Result.{err_from_is_err_and}
+use Rattle.bits.specs.Packed.{tab, widths, packed, put, puts}
+use Rattle.bits.proofs.Packed.{widths-app, length-tab}
 use Rattle.bits.proofs.Filled.{puts-packed}
-use Rattle.bits.proofs.Stored.{length-puts, puts-app}
-use Rattle.format.specs.Format.{Format, unless, first, unless_fault, field, check, rows_judge, rows_kept, rows, pair, via, zeros}
+use Rattle.bits.proofs.Stored.{length-puts, puts-app, puts_one}
+use Rattle.refusal.specs.Number.{number_of}
+use Rattle.refusal.specs.declared.Refusal.{Refusal}
+use Rattle.format.specs.Format.{Format, unless, first, unless_fault, field, check, rows_read, rows_judge, rows_fields, rows_kept, rows, pair, via, zeros}
 use Rattle.format.specs.File.{bytes, refused, bytes_or, write_file}
-use Rattle.format.specs.Steps.{judged, fault_of, kept_from, Stores}
-use Rattle.format.specs.declared.Cursor.{Cursor}
-use Rattle.format.proofs.Fault.{first-none, first-left, first-right, first-assoc, fault-none, fault-some, judged-pos, fault-judged}
-use Rattle.format.proofs.Kept.{unless_fault-empty, kept-start, kept_then, rows-kept-more}
+use Rattle.format.specs.Steps.{fault_of, Stores}
+use Rattle.format.proofs.Fault.{first-left, first-right, first-assoc}
+use Rattle.format.proofs.Kept.{unless_fault-none, unless_fault-empty, kept-rows}
 use Rattle.format.proofs.Law.{Lawful}
 
-module _ {A : Type 0} {f : Format A} {a : A} {o o' : List ℕ} {c₀ c₁ : Cursor} where
-  -- no number at the end: none at the start, and no fault
-  no-fault : Stores f a o o' c₀ c₁ → c₁.number ≡ 0 → (fault_of c₀.number ≡ none) × (f.judge a ≡ none)
-  no-fault h z = first-none (fault_of c₀.number) (f.judge a) (sym h.fault ∙ fault-none c₁.number z)
+module _ {A : Type 0} {f : Format A} {a : A} {o o' : List ℕ} {p : ℕ} where
+  -- a place: no fault
+  pub no-fault : {q : ℕ} → Stores f a o o' p (Ok q) → f.judge a ≡ none
+  unfolding fault_of
+  no-fault h = sym h.fault
 
-  pub stores-length : Stores f a o o' c₀ c₁ → length o' ≡ length o
-  stores-length h = ap length h.stored ∙ length-puts o c₀.pos (kept_from c₀ f a)
+  pub stores-length : {r : Result ℕ Refusal} → Stores f a o o' p r → length o' ≡ length o
+  stores-length h = ap length h.stored ∙ length-puts o p (f.kept a)
 
-module _ {A B C : Type 0} (f : Format A) (g : Format B) (h : Format C) {a : A} {b : B} {d : C} {o₀ o₁ o₂ : List ℕ} {c₀ c₁ c₂ : Cursor} where
-  -- one step, then another
-  pub stores-then : Stores f a o₀ o₁ c₀ c₁ → Stores g b o₁ o₂ c₁ c₂ → h.judge d ≡ first (f.judge a) (g.judge b)
+-- the same fault and the same fields before it
+stores-same : {A B : Type 0} (f : Format A) (h : Format B) {a : A} {d : B} {o o' : List ℕ} {p : ℕ} {r : Result ℕ Refusal} → h.judge d ≡ f.judge a → h.kept d ≡ f.kept a
+    → Stores f a o o' p r
+    → Stores h d o o' p r
+stores-same f h {p = p} {r} j k s =
+    record { fault = s.fault ∙ sym j; place = subst (λ (l : List (ℕ × ℕ)). IfOk r (λ next. next ≡ p + widths l)) (sym k) s.place; stored = s.stored ∙ ap (puts _ p) (sym k) }
+
+-- a refusal is handed on
+pub stores-given : {A : Type 0} {f : Format A} {a : A} {o o' : List ℕ} {p : ℕ} {refusal : Refusal} {r : Result ℕ Refusal} → IsErrAnd r (λ e. e ≡ refusal)
+    → Stores f a o o' p (Err refusal)
+    → Stores f a o o' p r
+stores-given {r = r} h s = let e = err_from_is_err_and r h in rw (e.1, e.2) s
+
+module _ {A B C : Type 0} (f : Format A) (g : Format B) (h : Format C) {a : A} {b : B} {d : C} {o₀ o₁ o₂ : List ℕ} {p q : ℕ} where
+  -- one step, then another from where it ended
+  stores-then : {r : Result ℕ Refusal} → Stores f a o₀ o₁ p (Ok q) → Stores g b o₁ o₂ q r → h.judge d ≡ first (f.judge a) (g.judge b)
       → h.kept d ≡ f.kept a ++ unless_fault (f.judge a) (g.kept b)
-      → Stores h d o₀ o₂ c₀ c₂
-  stores-then x y j k =
-      let fs = kept_from c₀ f a in
-      let gs = kept_from c₁ g b in
-      let e : kept_from c₀ h d ≡ fs ++ gs = kept_then f g h a b d c₀ c₁ x.fault k in
+      → Stores h d o₀ o₂ p r
+  stores-then {r} x y j k =
+      let none_yet = no-fault x in
+      let e : h.kept d ≡ f.kept a ++ g.kept b = k ∙ ap (λ (l : List (ℕ × ℕ)). f.kept a ++ l) (unless_fault-none _ _ none_yet) in
       record {
-        fault = y.fault ∙ ap (λ (m : Option ℕ). first m (g.judge b)) x.fault ∙ first-assoc _ _ _ ∙ ap (first (fault_of c₀.number)) (sym j);
-        place = omega (arith, y.place, x.place, widths-app fs gs, ap widths e);
+        fault = y.fault ∙ sym (first-left _ _ none_yet) ∙ sym j;
+        place = go r y.place (omega (arith, x.place, widths-app (f.kept a) (g.kept b), ap widths e));
         stored =
             y.stored
-            ∙ ap (λ (l : List ℕ). puts l c₁.pos gs) x.stored
-            ∙ ap (λ (q : ℕ). puts (puts o₀ c₀.pos fs) q gs) x.place
-            ∙ sym (puts-app o₀ c₀.pos fs gs)
-            ∙ ap (puts o₀ c₀.pos) (sym e);
+            ∙ ap (λ (l : List ℕ). puts l q (g.kept b)) x.stored
+            ∙ ap (λ (n : ℕ). puts (puts o₀ p (f.kept a)) n (g.kept b)) x.place
+            ∙ sym (puts-app o₀ p (f.kept a) (g.kept b))
+            ∙ ap (puts o₀ p) (sym e);
       }
+    where
+      go : (r : Result ℕ Refusal) {m n : ℕ} → IfOk r (λ next. next ≡ m) → m ≡ n → IfOk r (λ next. next ≡ n)
+      go (Ok next) e d = e ∙ d
+      go (Err refusal) e d = e
 
-module _ {A B : Type 0} where
-  pub stores-pair : (f : Format A) (g : A → Format B) {a : A} {b : B} {o₀ o₁ o₂ : List ℕ} {c₀ c₁ c₂ : Cursor} → Stores f a o₀ o₁ c₀ c₁ → Stores (g a) b o₁ o₂ c₁ c₂
-      → Stores (pair f g) (a, b) o₀ o₂ c₀ c₂
+-- nothing is stored of the fields after a fault
+kept-stops : (x : Option ℕ) (n : ℕ) (fs gs : List (ℕ × ℕ)) → x ≡ some n → fs ++ unless_fault x gs ≡ fs
+unfolding unless_fault
+kept-stops x n fs gs e = rw e (append-nil fs)
+
+first-stops : (x y : Option ℕ) (n : ℕ) → x ≡ some n → first x y ≡ x
+unfolding first
+first-stops x y n e = rw e refl
+
+module _ {A C : Type 0} (f : Format A) (h : Format C) {a : A} {d : C} {o o' : List ℕ} {p : ℕ} {refusal : Refusal} where
+  -- one step was refused, and no other followed
+  stores-stop : (x : Option ℕ) (fs : List (ℕ × ℕ)) → Stores f a o o' p (Err refusal) → h.judge d ≡ first (f.judge a) x
+      → h.kept d ≡ f.kept a ++ unless_fault (f.judge a) fs
+      → Stores h d o o' p (Err refusal)
+  unfolding fault_of
+  stores-stop x fs s j k =
+      let fault : f.judge a ≡ some (number_of refusal) = sym s.fault in
+      stores-same f h (j ∙ first-stops (f.judge a) x _ fault) (k ∙ kept-stops _ _ (f.kept a) fs fault) s
+
+module _ {A B : Type 0} (f : Format A) (g : A → Format B) {a : A} {b : B} {o₀ o₁ : List ℕ} {p : ℕ} where
+  pub stores-pair : {o₂ : List ℕ} {q : ℕ} {r : Result ℕ Refusal} → Stores f a o₀ o₁ p (Ok q) → Stores (g a) b o₁ o₂ q r → Stores (pair f g) (a, b) o₀ o₂ p r
   unfolding pair
-  stores-pair f g {a} x y = stores-then f (g a) (pair f g) x y refl refl
+  stores-pair x y = stores-then f (g a) (pair f g) x y refl refl
 
-  pub stores-via : (to : B → A) (back : A → B) (f : Format A) (b : B) {o o' : List ℕ} {c₀ c₁ : Cursor} → Stores f (to b) o o' c₀ c₁ → Stores (via to back f) b o o' c₀ c₁
-  unfolding via kept_from
-  stores-via to back f b x = record { fault = x.fault; place = x.place; stored = x.stored }
+  pub stores-first : {refusal : Refusal} → Stores f a o₀ o₁ p (Err refusal) → Stores (pair f g) (a, b) o₀ o₁ p (Err refusal)
+  unfolding pair
+  stores-first x = stores-stop f (pair f g) ((g a).judge b) ((g a).kept b) x refl refl
 
-pub stores-field : (w : ℕ) (t : ℕ → Bool) (n x : ℕ) {b : Bool} {o o' : List ℕ} {c₀ c₁ : Cursor} → b ≡ t x → Stores (field w (λ _. b) n) x o o' c₀ c₁
-    → Stores (field w t n) x o o' c₀ c₁
-unfolding field kept_from
-stores-field w t n x {o = o} {c₀ = c₀} e h =
-    let j : Bool → Option ℕ = λ b. first (unless (ltb x (2 ^ w)) n) (unless b n) in
-    let k : Bool → List (ℕ × ℕ) = λ b. unless_fault (fault_of c₀.number) (unless_fault (j b) ((w, x) ∷ [])) in
-    record {
-      fault = h.fault ∙ ap (λ (b : Bool). first (fault_of c₀.number) (j b)) e;
-      place = h.place ∙ ap (λ (b : Bool). c₀.pos + widths (k b)) e;
-      stored = h.stored ∙ ap (λ (b : Bool). puts o c₀.pos (k b)) e;
-    }
+-- a field that fits and that its test holds of, and one that is refused
+module _ (w x : ℕ) (b : Bool) {o : List ℕ} {p : ℕ} where
+  pub field-stored : {o' : List ℕ} (n : ℕ) → ltb x (2 ^ w) ≡ true → b ≡ true → o' ≡ put o p w x → Stores (field w (λ _. b) n) x o o' p (Ok (p + w))
+  unfolding field unless first unless_fault widths fault_of
+  field-stored n fits holds e = record { fault = rw (fits, holds) refl; place = rw (fits, holds) (omega arith); stored = e ∙ rw (fits, holds) (sym (puts_one o p w x)) }
 
-module _ {A : Type 0} (f : Format A) where
-  pub stores-zeros : (w n : ℕ) {a : A} {o₀ o₁ o₂ : List ℕ} {c₀ c₁ c₂ : Cursor} → Stores f a o₀ o₁ c₀ c₁ → Stores (field w (λ _. true) n) 0 o₁ o₂ c₁ c₂
-      → Stores (zeros f w n) a o₀ o₂ c₀ c₂
+  pub field-refused : (refusal : Refusal) → (ltb x (2 ^ w) ≡ false) ⊎ ((ltb x (2 ^ w) ≡ true) × (b ≡ false)) → Stores (field w (λ _. b) (number_of refusal)) x o o p (Err refusal)
+  unfolding field unless first unless_fault puts fault_of
+  field-refused refusal (inl e) = record { fault = rw e refl; place = tt; stored = rw e refl }
+  field-refused refusal (inr (d, e)) = record { fault = rw (d, e) refl; place = tt; stored = rw (d, e) refl }
+
+pub stores-via : {A B : Type 0} (to : B → A) (back : A → B) (f : Format A) (b : B) {o o' : List ℕ} {p : ℕ} {r : Result ℕ Refusal} → Stores f (to b) o o' p r
+    → Stores (via to back f) b o o' p r
+unfolding via
+stores-via to back f b x = stores-same f (via to back f) refl refl x
+
+pub stores-field : (w : ℕ) (t : ℕ → Bool) (n x : ℕ) {b : Bool} {o o' : List ℕ} {p : ℕ} {r : Result ℕ Refusal} → b ≡ t x → Stores (field w (λ _. b) n) x o o' p r
+    → Stores (field w t n) x o o' p r
+unfolding field
+stores-field w t n x e h = record { fault = rw e at h.fault; place = rw e at h.place; stored = rw e at h.stored }
+
+module _ {A : Type 0} (f : Format A) (w n : ℕ) {a : A} {o₀ o₁ : List ℕ} {p : ℕ} where
+  pub stores-zeros : {o₂ : List ℕ} {q : ℕ} {r : Result ℕ Refusal} → Stores f a o₀ o₁ p (Ok q) → Stores (field w (λ _. true) n) 0 o₁ o₂ q r
+      → Stores (zeros f w n) a o₀ o₂ p r
   unfolding zeros
-  stores-zeros w n {a} x y = stores-via _ _ _ a (stores-pair f (λ _. field w (eqb 0) n) x (stores-field w (eqb 0) n 0 refl y))
+  stores-zeros x y = stores-via _ _ _ a (stores-pair f (λ _. field w (eqb 0) n) x (stores-field w (eqb 0) n 0 refl y))
 
-module _ {A : Type 0} (f : Format A) where
-  pub stores-check : (t : A → Bool) (n : ℕ) {a : A} {b : Bool} {o o' : List ℕ} {c₀ c₁ : Cursor} → Stores f a o o' c₀ c₁ → b ≡ t a → 0 < n
-      → Stores (check f t n) a o o' c₀ (judged c₁ b n)
-  unfolding check kept_from
-  stores-check t n {a} {b} {o} {o'} {c₀} {c₁} h e k =
-      record {
-        fault =
-            fault-judged c₁ b n k
-            ∙ ap (λ (m : Option ℕ). first m (unless b n)) h.fault
-            ∙ first-assoc _ _ _
-            ∙ ap (λ (x : Bool). first (fault_of c₀.number) (first (f.judge a) (unless x n))) e;
-        place = judged-pos c₁ b n ∙ h.place;
-        stored = h.stored;
-      }
+  pub stores-before_zeros : {refusal : Refusal} → Stores f a o₀ o₁ p (Err refusal) → Stores (zeros f w n) a o₀ o₁ p (Err refusal)
+  unfolding zeros
+  stores-before_zeros x = stores-via _ _ _ a (stores-first f (λ _. field w (eqb 0) n) x)
+
+module _ {A : Type 0} (f : Format A) (t : A → Bool) {a : A} {o o' : List ℕ} {p : ℕ} where
+  -- the test is made after the value was stored
+  pub stores-check : {q : ℕ} (n : ℕ) → Stores f a o o' p (Ok q) → t a ≡ true → Stores (check f t n) a o o' p (Ok q)
+  unfolding check unless
+  stores-check n h e = record { fault = h.fault ∙ sym (rw e (first-right _)); place = h.place; stored = h.stored }
+
+  pub check-fails : {q : ℕ} (refusal : Refusal) → Stores f a o o' p (Ok q) → t a ≡ false → Stores (check f t (number_of refusal)) a o o' p (Err refusal)
+  unfolding check unless fault_of
+  check-fails refusal h e = record { fault = sym (rw e (first-left _ _ (no-fault h))); place = tt; stored = h.stored }
+
+  pub before_check : (n : ℕ) {refusal : Refusal} → Stores f a o o' p (Err refusal) → Stores (check f t n) a o o' p (Err refusal)
+  unfolding check fault_of
+  before_check n h = record { fault = h.fault ∙ sym (first-stops _ _ _ (sym h.fault)); place = h.place; stored = h.stored }
+
+tab-app : {A : Type 0} (g : ℕ → A) (k i n : ℕ) → tab g k (i + n) ≡ tab g k i ++ tab g (k + i) n
+unfolding tab
+tab-app g k zero n =
+    let e : 0 + n ≡ n = omega arith in
+    let d : k ≡ k + 0 = omega arith in
+    ap (tab g k) e ∙ ap (λ (j : ℕ). tab g j n) d
+tab-app g k (suc i) n =
+    let e : suc i + n ≡ suc (i + n) = omega arith in
+    let d : suc k + i ≡ k + suc i = omega arith in
+    ap (tab g k) e ∙ ap (λ (l : List _). g k ∷ l) (tab-app g (suc k) i n ∙ ap (λ (j : ℕ). tab g (suc k) i ++ tab g j n) d)
 
 module _ {A : Type 0} (f : List A → Format A) where
-  rows-judge-more : (m : List A) (n : ℕ) (l : List A) (a : A) → length l ≡ n → rows_judge f m (suc n) (l ++ a ∷ []) ≡ first (rows_judge f m n l) ((f (m ++ l)).judge a)
+  -- n more rows after those in m
+  unfoldable rows_after : List A → ℕ → Format (List A)
+  rows_after m n =
+      record {
+        read = λ s pos. rows_read f s m n pos;
+        judge = λ l. rows_judge f m n l;
+        fields = λ l. rows_fields f m l;
+        kept = λ l. rows_kept f m l;
+      }
+
+  -- the rows l, then the rows k
+  judge-rows : (m l k : List A) (n : ℕ) → rows_judge f m (length l + n) (l ++ k) ≡ first (rows_judge f m (length l) l) (rows_judge f (m ++ l) n k)
   unfolding rows_judge
-  rows-judge-more m zero [] a e = first-right ((f m).judge a) ∙ ap (λ (x : List A). (f x).judge a) (sym (append-nil m)) ∙ sym (first-left none _ refl)
-  rows-judge-more m zero (b ∷ l) a e = absurd (omega arith)
-  rows-judge-more m (suc n) [] a e = absurd (omega arith)
-  rows-judge-more m (suc n) (b ∷ l) a e =
-      ap (first ((f m).judge b))
-      (rows-judge-more (m ++ b ∷ []) n l a (omega arith) ∙ ap (λ (x : List A). first (rows_judge f (m ++ b ∷ []) n l) ((f x).judge a)) (append_assoc m (b ∷ []) l))
-      ∙ sym (first-assoc ((f m).judge b) _ _)
+  judge-rows m [] k n =
+      let e : 0 + n ≡ n = omega arith in
+      ap (λ (i : ℕ). rows_judge f m i k) e ∙ ap (λ (x : List A). rows_judge f x n k) (sym (append-nil m)) ∙ sym (first-left none _ refl)
+  judge-rows m (a ∷ l) k n =
+      let e : suc (length l) + n ≡ suc (length l + n) = omega arith in
+      ap (λ (i : ℕ). rows_judge f m i (a ∷ l ++ k)) e
+      ∙ ap (first ((f m).judge a)) (judge-rows (m ++ a ∷ []) l k n ∙ ap (λ (x : List A). first (rows_judge f (m ++ a ∷ []) (length l) l) (rows_judge f x n k)) (append_assoc m (a ∷ []) l))
+      ∙ sym (first-assoc ((f m).judge a) _ _)
 
-  pub stores-rows-begin : {o : List ℕ} {c : Cursor} → Stores (rows 0 f) [] o o c c
-  unfolding rows rows_judge rows_kept kept_from widths puts
-  stores-rows-begin {o} {c} =
-      let e : kept_from c (rows 0 f) [] ≡ [] = unless_fault-empty (fault_of c.number) in
-      record { fault = sym (first-right _); place = omega (arith, ap widths e); stored = sym (ap (puts o c.pos) e) }
+  pub stores-rows-begin : (g : ℕ → A) {o : List ℕ} {p : ℕ} → Stores (rows 0 f) (tab g 0 0) o o p (Ok p)
+  unfolding rows rows_judge rows_kept widths puts fault_of tab
+  stores-rows-begin g = record { fault = refl; place = omega arith; stored = refl }
 
-  pub stores-rows-turn : (i : ℕ) {l : List A} {a : A} {o₀ o₁ o₂ : List ℕ} {c₀ c₁ c₂ : Cursor} → length l ≡ i → Stores (rows i f) l o₀ o₁ c₀ c₁ → Stores (f l) a o₁ o₂ c₁ c₂
-      → Stores (rows (i + 1) f) (l ++ a ∷ []) o₀ o₂ c₀ c₂
-  unfolding rows
-  stores-rows-turn i {l} {a} e x y =
-      stores-then (rows i f) (f l) (rows (i + 1) f) x y
-      (ap (λ (k : ℕ). rows_judge f [] k (l ++ a ∷ [])) (add-one i) ∙ rows-judge-more [] i l a e)
-      (rows-kept-more f [] i l a e)
+  module _ (g : ℕ → A) {o₀ o₁ : List ℕ} {p q : ℕ} where
+    -- i rows, then all from row i on
+    stores-rows-join : (i n : ℕ) {o₂ : List ℕ} {r : Result ℕ Refusal}
+        → Stores (rows i f) (tab g 0 i) o₀ o₁ p (Ok q)
+        → Stores (rows_after (tab g 0 i) n) (tab g i n) o₁ o₂ q r
+        → Stores (rows (i + n) f) (tab g 0 (i + n)) o₀ o₂ p r
+    unfolding rows rows_after
+    stores-rows-join i n x y =
+        let l = tab g 0 i in
+        let k = tab g i n in
+        let start : 0 + i ≡ i = omega arith in
+        let all : tab g 0 (i + n) ≡ l ++ k = rw start at (tab-app g 0 i n) in
+        let long : length l ≡ i = length-tab g 0 i in
+        stores-then (rows i f) (rows_after l n) (rows (i + n) f) x y
+        (ap (rows_judge f [] (i + n)) all ∙ rw long at (judge-rows [] l k n))
+        (ap (rows_kept f []) all ∙ rw long at (kept-rows f [] l k))
 
-module _ {A : Type 0} (f : Format A) {a : A} {o o' : List ℕ} {c₀ c₁ : Cursor} where
-  pub not_written : c₀.number ≡ 0 → Stores f a o o' c₀ c₁ → 0 < c₁.number → write_file f a ≡ refused c₁.number
-  unfolding write_file bytes_or
-  not_written z h n =
-      let j : f.judge a ≡ some c₁.number =
-      sym (first-left (fault_of c₀.number) (f.judge a) (fault-none c₀.number z)) ∙ sym h.fault ∙ fault-some c₁.number n in
-      ap (λ (m : Option ℕ). bytes_or m (packed (f.fields a))) j
+    -- row i
+    pub stores-rows-turn : (i : ℕ) {o₂ : List ℕ} {q' : ℕ} {h : Format A} {a : A}
+        → h ≡ f (tab g 0 i)
+        → a ≡ g i
+        → Stores (rows i f) (tab g 0 i) o₀ o₁ p (Ok q)
+        → Stores h a o₁ o₂ q (Ok q')
+        → Stores (rows (i + 1) f) (tab g 0 (i + 1)) o₀ o₂ p (Ok q')
+    unfolding rows_after rows_judge rows_kept tab
+    stores-rows-turn i {h = h} {a = a} e d x y =
+        let l = tab g 0 i in
+        let z : Stores (f l) (g i) o₁ _ q (Ok _) = rw (e, d) at y in
+        let none_left = ap (λ (x : List (ℕ × ℕ)). (f l).kept (g i) ++ x) (unless_fault-empty ((f l).judge (g i))) ∙ append-nil _ in
+        stores-rows-join i 1 x (stores-same (f l) (rows_after l 1) (first-right _) none_left z)
+
+    -- row i is refused, and no other follows
+    pub stores-rows-stop : (i n : ℕ) {o₂ : List ℕ} {refusal : Refusal} {h : Format A} {a : A}
+        → i < n
+        → h ≡ f (tab g 0 i)
+        → a ≡ g i
+        → Stores (rows i f) (tab g 0 i) o₀ o₁ p (Ok q)
+        → Stores h a o₁ o₂ q (Err refusal)
+        → Stores (rows n f) (tab g 0 n) o₀ o₂ p (Err refusal)
+    unfolding rows_after rows_judge rows_kept tab
+    stores-rows-stop i n {h = h} {a = a} b e d x y =
+        let k = n - suc i in
+        let l = tab g 0 i in
+        let z : Stores (f l) (g i) o₁ _ q (Err _) = rw (e, d) at y in
+        let s : i + suc k ≡ n = omega arith in
+        rw s at (stores-rows-join i (suc k) x (stores-stop (f l) (rows_after l (suc k)) (rows_judge f (l ++ g i ∷ []) k (tab g (suc i) k)) (rows_kept f (l ++ g i ∷ []) (tab g (suc i) k)) z refl refl))
+
+module _ {A : Type 0} (f : Format A) {a : A} {o o' : List ℕ} where
+  pub not_written : {p : ℕ} {refusal : Refusal} → Stores f a o o' p (Err refusal) → write_file f a ≡ refused (number_of refusal)
+  unfolding write_file bytes_or fault_of
+  not_written h = ap (λ (m : Option ℕ). bytes_or m (packed (f.fields a))) (sym h.fault)
 
   pub written :
-      Lawful f
-      → c₀.number ≡ 0
-      → c₀.pos ≡ 0
-      → Stores f a o o' c₀ c₁
-      → c₁.number ≡ 0
-      → (write_file f a ≡ bytes (packed (f.fields a))) × (c₁.pos ≡ widths (f.fields a))
+      {q : ℕ}
+      → Lawful f
+      → Stores f a o o' 0 (Ok q)
+      → (write_file f a ≡ bytes (packed (f.fields a))) × (q ≡ widths (f.fields a))
       × (length (packed (f.fields a)) ≤ length o → o' ≡ packed (f.fields a) ++ drop (length (packed (f.fields a))) o)
   unfolding write_file bytes_or
-  written law z p h e =
+  written law h =
       let fs = f.fields a in
-      let j : f.judge a ≡ none = (no-fault h e).1 in
-      let k : kept_from c₀ f a ≡ fs = kept-start f a c₀ z ∙ law.all-kept a j in (
+      let j : f.judge a ≡ none = no-fault h in
+      let k : f.kept a ≡ fs = law.all-kept a j in (
         ap (λ (m : Option ℕ). bytes_or m (packed fs)) j,
         omega (arith, h.place, ap widths k),
-        λ l. h.stored ∙ ap (puts o c₀.pos) k ∙ ap (λ (q : ℕ). puts o q fs) p ∙ puts-packed o fs l,
+        λ l. h.stored ∙ ap (puts o 0) k ∙ puts-packed o fs l,
       )

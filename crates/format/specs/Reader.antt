@@ -3,15 +3,14 @@
 -- Assumes nothing.
 use Rattle.std.specs.Prelude.{List, ℕ, ◌+◌}
 use Rattle.bits.specs.Field.{field_at}
-use Rattle.bits.specs.declared.Field.{Field}
-use Rattle.bits.specs.declared.Field.TheVariants.{Value, Absent}
+use Rattle.std.specs.Prelude.{Option, Some, None}
 use Rattle.format.specs.declared.bit_reader.Found.{Found}
 use Rattle.format.specs.declared.bit_reader.BitReader.{BitReader}
 
 -- where the next field begins, after one of w bits
-abbrev pub after : Field → ℕ → ℕ → ℕ
-after (Value x) at w = at + w
-after Absent at w = at
+abbrev pub after : Option ℕ → ℕ → ℕ → ℕ
+after (Some x) at w = at + w
+after None at w = at
 
 -- the field of w bits at a place, and where the next one begins
 unfoldable pub found_at : List ℕ → ℕ → ℕ → Found

@@ -3,12 +3,12 @@
 ghost use Rattle.std.specs.Prelude.{◌≡◌, ◌^◌, ◌≤◌, ◌<◌};
 ghost use Rattle.format.specs.Reader.{found_at, past};
 
-use bits::{Field, field_at};
+use bits::field_at;
 
 // A field, and where the next one begins: where this one was to begin, if it runs past the end.
 #[derive(Clone, Copy)]
 pub struct Found {
-    pub field: Field,
+    pub field: Option<u64>,
     pub at: usize,
 }
 
@@ -19,11 +19,11 @@ fn found_at(s: &[u8], at: usize, w: usize) -> Found
 {
     let f = field_at(s, at, w);
     match f {
-        Field::Value(_) => Found {
+        Some(_) => Found {
             field: f,
             at: at + w,
         },
-        Field::Absent => Found { field: f, at },
+        None => Found { field: f, at },
     }
 }
 
@@ -50,7 +50,7 @@ impl<'a> BitReader<'a> {
     }
 
     // The next field of w bits. The reader moves on, unless the field runs past the end.
-    pub fn take<'s>(&'s mut self, w: usize) -> Field
+    pub fn take<'s>(&'s mut self, w: usize) -> Option<u64>
         requires { (w ≤ 24) × (self.old.at < 2 ^ 40) }
         ensures { (result ≡ (found_at self.old.src.now self.old.at w).field)
             × (self.new ≡ past self.old w) }

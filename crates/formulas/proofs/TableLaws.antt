@@ -17,7 +17,7 @@ use Rattle.bits.specs.Packed.{tab}
 use Rattle.bits.proofs.Packed.{length-tab, get_or-tab}
 use Rattle.policy.specs.Policy.{Attr, no_attr, fewest_from, fewest_bits, bits_for, width}
 use Rattle.policy.specs.Nodes.{holder_of, place_of, of_holder}
-use Rattle.policy.specs.Rules.{attr_at, attrs_of, lists_of}
+use Rattle.policy.specs.Rules.{as_attr, no_attribute, attr_at, attrs_of, lists_of}
 use Rattle.policy.specs.declared.Class.{Class}
 use Rattle.policy.specs.declared.Classes.{Classes}
 use Rattle.policy.proofs.Laws.{attrs-length, attrs-at}
@@ -91,9 +91,6 @@ module _ (part : ℕ → ℕ → ℕ) (g h : ℕ) (old : List ℕ) where
   pub fill_end : (k : ℕ) (new : List ℕ) → Filling part g h k old new → k ≡ 0 → Filling part g h 0 old new
   fill_end k new f e = subst (λ (j : ℕ). Filling part g h j old new) e f
 
-pub zeros-length : (t : List ℕ) → t ≡ replicate 256 0 → length t ≡ 256
-zeros-length t e = ap length e ∙ length-replicate {A = ℕ} 256 0
-
 module _ (part : ℕ → ℕ → ℕ) where
   pub table-start : Table part 0 (replicate 256 0)
   table-start =
@@ -160,16 +157,12 @@ later_more c k h =
     ∙ ap (λ (n : ℕ). bits_for (attr_at c k) + width (drop n (attrs_of c))) (sym (add-one k))
 
 -- a class has as many attributes as it counts, and no more than there is room for
-pub none-past : (c : Class) (k : ℕ) → length c.kinds ≤ 8 → length c.sizes ≤ 8 → length c.lists ≤ 8 → min c.count 8 ≤ k → attr_of (attrs_of c) k ≡ no_attr
+pub none-past : (c : Class) (k : ℕ) → length c.attributes ≤ 8 → min c.count 8 ≤ k → attr_of (attrs_of c) k ≡ no_attr
 unfolding attr_of attr_at no_attr
-none-past c k r s t h = go (dec_lt k c.count)
+none-past c k r h = go (dec_lt k c.count)
   where
     go : Dec (k < c.count) → attr_of (attrs_of c) k ≡ no_attr
-    go (yes l) =
-        attr-at c k l
-        ∙ ap (λ (z : ℕ). record { kind = z; size = get_or c.sizes k 0; list = get_or c.lists k 0 }) (get_or-eq_default c.kinds 0 (omega arith))
-        ∙ ap (λ (z : ℕ). record { kind = 0; size = z; list = get_or c.lists k 0 }) (get_or-eq_default c.sizes 0 (omega arith))
-        ∙ ap (λ (z : ℕ). record { kind = 0; size = 0; list = z }) (get_or-eq_default c.lists 0 (omega arith))
+    go (yes l) = attr-at c k l ∙ ap as_attr (get_or-eq_default c.attributes no_attribute (omega arith))
     go (no l) = get_or-eq_default (attrs_of c) no_attr (omega (arith, attrs-length c))
 
 -- those that are not there have no width
@@ -208,8 +201,7 @@ left_at c v k x bits h e small d =
     ∙ shr-shr v (width (drop (k + 1) (attrs_of c))) (bits_for (attr_at c k))
     ∙ ap (λ (z : ℕ). v / 2 ^ z) (omega (arith, later_more c k h))
 
-pub size-at : (c : Class) (k : ℕ) → k < c.count → get_or c.sizes k 0 ≡ (attr_of (attrs_of c) k).size
-unfolding attr_at
+pub size-at : (c : Class) (k : ℕ) → k < c.count → (attr_at c k).size ≡ (attr_of (attrs_of c) k).size
 size-at c k h = sym (ap (λ (a : Attr). a.size) (attr-at c k h))
 
 -- all operands, filled in one class after another

@@ -21,6 +21,17 @@ pub struct Holders {
     pub newitem: u8,
 }
 
+impl Holders {
+    // Every value is 0.
+    pub const NONE: Holders = Holders {
+        user: 0,
+        session: 0,
+        newsession: 0,
+        item: 0,
+        newitem: 0,
+    };
+}
+
 // What formula f says from node k on, where the answers of the first k nodes are known. The value of every operand is worked out once.
 fn rest(
     classes: Classes,
@@ -56,10 +67,10 @@ pub fn holds(classes: Classes, holders: Holders, nodes: &[u32], f: usize, n: u8)
     let mut last = false;
     for i in 0..n as usize {
         let node = node::at(nodes, f, i);
-        if node::is_comparison(node) {
+        let Some(says) = node::joins(&before, node) else {
             return rest(classes, holders, nodes, f, n, i, before, last);
-        }
-        last = node::joins(&before, node);
+        };
+        last = says;
         before[i] = last;
     }
     last

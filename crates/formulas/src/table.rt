@@ -1,25 +1,21 @@
 // The number that each operand stands for, and the size of its list, for all 256 operands: 32 places for each of eight holders, the first
 // five of which have attributes, the sixth the constants, and the last two nothing.
-ghost use Rattle.std.specs.Prelude.{◌≡◌, cond, ℕ, ◌+◌, ◌*◌, ◌%◌, ◌^◌, ◌≤◌, ◌<◌, min, eqb, length, replicate};
+ghost use Rattle.std.specs.Prelude.{◌≡◌, cond, ◌+◌, ◌*◌, ◌%◌, ◌^◌, ◌≤◌, ◌<◌, min, eqb, length, replicate};
 ghost use Rattle.bits.specs.Packed.{tab};
 ghost use Rattle.policy.specs.Policy.{bits_for};
-ghost use Rattle.policy.specs.Rules.{attrs_of, lists_of};
+ghost use Rattle.policy.specs.Rules.{as_attr, attrs_of, lists_of};
 ghost use Rattle.formulas.specs.Value.{operand, size_of_operand, attr_of, part_of};
 ghost use Rattle.formulas.specs.Parts.{placed, Filling};
 
 use super::Holders;
-use policy::shape::{bits_for, byte_at};
-use policy::{Class, Classes};
+use bits::low_bits;
+use policy::{Attribute, Class, Classes};
 
-// The bits of one value of an attribute, whatever its list, at most 8.
-fn bits_of(kind: u8, size: u8) -> u8
-    ensures { (n : ℕ) → result ≡ min (bits_for record { kind = kind; size = size; list = n }) 8 }
+// The bits of one value of an attribute, at most 8.
+fn bits_of(attribute: Attribute) -> u8
+    ensures { result ≡ min (bits_for (as_attr attribute)) 8 }
 {
-    if kind == 0 {
-        bits_for(kind, size)
-    } else {
-        byte_of(size as usize)
-    }
+    attribute.bits().min(8)
 }
 
 // The last bits of v, so many as bits says.
@@ -27,7 +23,7 @@ fn last(v: u64, bits: u8) -> u8
     requires { (v ≤ 255) × (bits ≤ 8) }
     ensures { result ≡ v % 2 ^ bits }
 {
-    (v & ((1u64 << bits) - 1)) as u8
+    low_bits(v, bits as usize) as u8
 }
 
 // x and y are stored at place k of the holders g and h.
@@ -44,9 +40,7 @@ fn constants(table: &mut [u8])
     requires { 192 ≤ length table.old }
     ensures { Filling (λ i k. k) 5 5 0 table.old table.new }
 {
-    let mut k: u8 = 32;
-    while 0 < k {
-        k -= 1;
+    for k in (0..32u8).rev() {
         place(table, 5, 5, k as usize, k, k);
     }
 }
@@ -60,13 +54,11 @@ fn fill(values: &mut [u8], sizes: &mut [u8], g: usize, h: usize, class: Class, v
 {
     let mut x = v as u64;
     let mut y = w as u64;
-    let mut k = byte_of(class.count as usize) as usize;
-    while 0 < k {
-        k -= 1;
-        let size = byte_at(&class.sizes, k);
-        let bits = bits_of(byte_at(&class.kinds, k), size);
+    for k in (0..byte_of(class.count as usize) as usize).rev() {
+        let attribute = class.attribute(k);
+        let bits = bits_of(attribute);
         place(values, g, h, k, last(x, bits), last(y, bits));
-        place(sizes, g, h, k, size, size);
+        place(sizes, g, h, k, attribute.size, attribute.size);
         x >>= bits;
         y >>= bits;
     }
@@ -76,7 +68,7 @@ fn fill(values: &mut [u8], sizes: &mut [u8], g: usize, h: usize, class: Class, v
 pub fn byte_of(n: usize) -> u8
     ensures { result ≡ min n 8 }
 {
-    if n < 8 { n as u8 } else { 8 }
+    n.min(8) as u8
 }
 
 // The values and sizes of all operands are stored.

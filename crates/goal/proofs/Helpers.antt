@@ -43,3 +43,8 @@ module _ (m : Model) (items : Values) (q : Question) where
           (any-item-is-searched m helper (values_of items) (omega (arith, values_length items))
           (λ j l. let b : j < items.count = omega (arith, values_length items) in omega (arith, value-at items j b, byte j)))
           (item-any m items q helper d)
+
+  pub found-shallow : (helper : ℕ → Bool) (x : Found) → q.item < 256 → items.count < 256 → ((k : ℕ) → get_or items.values k 0 < 256) → x ≡ item_found m items helper q
+      → (i : ℕ) → i < x.len → depth_at x i < 256
+  found-shallow helper x hq hc byte e i h =
+      subst (λ (y : Found). depth_at y i < 256) (sym e) (item-shallow helper i hq hc byte (subst (λ (y : Found). i < y.len) e h))

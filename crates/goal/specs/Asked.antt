@@ -4,7 +4,7 @@
 use Rattle.std.specs.Prelude.{◌≡◌, Bool, false, cond, List, ℕ, ◌+◌, ◌%◌, ◌<◌, ltb, eqb, length, get_or}
 use Rattle.lanes.specs.Lanes.{lane_of}
 use Rattle.policy.specs.Policy.{Session}
-use Rattle.policy.specs.Rules.{values_of}
+use Rattle.policy.specs.Rules.{values_of, session_at}
 use Rattle.policy.specs.declared.Sessions.{Sessions}
 use Rattle.policy.specs.declared.Values.{Values}
 use Rattle.runs.specs.Model.{Model}
@@ -13,6 +13,8 @@ use Rattle.search.specs.Sessions.{own_found}
 use Rattle.search.specs.Items.{one_found, any_found}
 use Rattle.search.specs.declared.queue.Found.{Found}
 use Rattle.session_rows.specs.declared.Pen.{Pen}
+use Rattle.leak.specs.declared.Actor.{Actor}
+use Rattle.leak.specs.declared.Actor.TheVariants as Acting
 use Rattle.leak.specs.declared.Aim.{Aim}
 use Rattle.replay.specs.declared.question.Question.{Question}
 use Rattle.user_results.specs.Found.{user_found}
@@ -23,7 +25,7 @@ item_found m items helper q = cond (eqb q.itemkind 0) (one_found m helper q.item
 
 -- the search of the session that is asked about, or none; `starting` are the starting sessions
 unfoldable pub session_found : Model → Sessions → Question → Found
-session_found m starting q = cond (eqb q.whokind 0) (own_found m (get_or starting.users q.who 0) (get_or starting.values q.who 0)) nothing
+session_found m starting q = cond (eqb q.whokind 0) (own_found m (session_at starting q.who).user (session_at starting q.who).value) nothing
 
 -- one that is asked about can have value v
 unfoldable pub who_found : List Found → (ℕ → Bool) → Found → Question → ℕ → Bool
@@ -31,17 +33,13 @@ who_found users helper own q v =
     cond (eqb q.whokind 0) (lane_of own.seen v)
     (cond (eqb q.whokind 1) (cond (ltb q.who 16) (lane_of (user_found users q.who).seen v) false) (helper v))
 
+-- who is to act: a starting session, a session of a user, or any session
+abbrev pub actor_for : Sessions → Question → Actor
+actor_for starting q = cond (eqb q.whokind 0) (Acting.Session q.who (session_at starting q.who).user) (cond (eqb q.whokind 1) (Acting.User q.who) Acting.Anyone)
+
 -- what the leak aims at
 unfoldable pub aim_of : Sessions → Values → Question → ℕ → Aim
-aim_of starting items q value =
-    record {
-      whokind = q.whokind;
-      session = q.who;
-      owner = cond (eqb q.whokind 0) (get_or starting.users q.who 0) q.who;
-      value = value % 256;
-      items = items.count;
-      permission = q.permission;
-    }
+aim_of starting items q value = record { actor = actor_for starting q; value = value % 256; items = items.count; permission = q.permission }
 
 -- the pen before the first row: the starting sessions stand open
 pub record PenReady (sessions : List Session) (p : Pen) : Type 0 where

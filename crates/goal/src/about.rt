@@ -1,143 +1,111 @@
 // What a question asks about: the searches that it needs, and what a leak aims at.
-ghost use Rattle.std.specs.Prelude.{◌≡◌, cond, eqb, get_or};
+ghost use Rattle.std.specs.Prelude.{◌≡◌, ◌<◌, ℕ, cond, eqb, None, Some};
 ghost use Rattle.lanes.specs.Lanes.{lane_of, Lanes};
 ghost use Rattle.allowed_rows.specs.Basis.{model_by, InLists};
 ghost use Rattle.allowed_rows.specs.Scratch.{Scratch};
-ghost use Rattle.goal.specs.Asked.{item_found, session_found, who_found, aim_of};
+ghost use Rattle.search.specs.Searched.{depth_at};
+ghost use Rattle.goal.specs.Asked.{item_found, session_found, who_found, actor_for, aim_of};
 
 use allowed_rows::Basis;
 use item_search::{any_item, one_item};
-use leak::Aim;
-use policy::shape::byte_at;
+use leak::{Actor, Aim};
 use policy::{Sessions, Values};
 use replay::question::Question;
-use search::queue::{Found, nothing};
+use search::queue::Found;
 use session_search::own_values;
 
-// Value k, or 0 past the end.
-fn value_of(items: Values, k: usize) -> u8
-    ensures { result ≡ get_or items.values k 0 }
-{
-    let values = items.values;
-    byte_at(&values, k)
-}
-
-// The user of starting session k, or 0 past the end.
-fn owner_of(starting: Sessions, k: usize) -> u8
-    ensures { result ≡ get_or starting.users k 0 }
-{
-    let owners = starting.users;
-    byte_at(&owners, k)
-}
-
-// The value of starting session k, or 0 past the end.
-fn held_of(starting: Sessions, k: usize) -> u8
-    ensures { result ≡ get_or starting.values k 0 }
-{
-    let values = starting.values;
-    byte_at(&values, k)
-}
-
-// The values found.
-fn seen_of(q: Found) -> [u64; 4]
-    ensures { Lanes (lane_of q.seen) result }
-{
-    let seen = q.seen;
-    seen
-}
-
-// The search of the values of the item that is asked about, or of any. Formulas are prepared in `area` and `steps`.
+// The search of the values of the item that is asked about, or of any. Formulas are prepared in `area`.
+#[tactic(auto, unfolding(crate::specs::Asked::item_found))]
 pub fn item_values(
-    basis: Basis,
-    nodes: &[u32],
+    basis: &Basis,
     area: &mut [u64],
-    steps: &mut [u64],
     items: Values,
     helpers: [u64; 4],
     q: Question,
 ) -> Found
-    requires in_lists { InLists basis nodes.now }
-    requires scratch { Scratch basis steps.old area.old }
-    ensures { result ≡ item_found (model_by basis nodes.now) items (lane_of helpers) q }
+    requires in_lists { InLists basis.now }
+    requires scratch { Scratch basis.now area.old }
+    ensures value { result ≡ item_found (model_by basis.now) items (lane_of helpers) q }
+    ensures shallow { (i : ℕ) → i < result.len → depth_at result i < 256 }
 {
     if q.itemkind == Question::ITEM {
-        let value = value_of(items, q.item as usize);
-        return one_item(basis, nodes, area, steps, helpers, q.item, value);
+        let value = items.value(q.item as usize);
+        return one_item(basis, area, helpers, q.item, value);
     }
-    any_item(basis, nodes, area, steps, helpers, items)
+    any_item(basis, area, helpers, items)
 }
 
-// The search of the values of the session that is asked about, or none. Formulas are prepared in `area` and `steps`.
-pub fn session_values(
-    basis: Basis,
-    nodes: &[u32],
-    area: &mut [u64],
-    steps: &mut [u64],
-    starting: Sessions,
-    q: Question,
-) -> Found
-    requires in_lists { InLists basis nodes.now }
-    requires scratch { Scratch basis steps.old area.old }
-    ensures { result ≡ session_found (model_by basis nodes.now) starting q }
+// The search of the values of the session that is asked about, or none. Formulas are prepared in `area`.
+#[tactic(auto, unfolding(crate::specs::Asked::session_found))]
+pub fn session_values(basis: &Basis, area: &mut [u64], starting: &Sessions, q: Question) -> Found
+    requires in_lists { InLists basis.now }
+    requires scratch { Scratch basis.now area.old }
+    ensures { result ≡ session_found (model_by basis.now) starting.now q }
 {
-    if q.whokind == Question::SESSION {
-        let k = q.who as usize;
-        let owner = owner_of(starting, k);
-        let held = held_of(starting, k);
-        return own_values(basis, nodes, area, steps, owner, held);
+    match q.whokind {
+        Question::SESSION => {
+            let session = starting.session(q.who as usize);
+            own_values(basis, area, session.user, session.value)
+        }
+        _ => Found::new(),
     }
-    nothing()
+}
+
+// The values found.
+fn seen_of(q: &Found) -> [u64; 4]
+    ensures { Lanes (lane_of q.now.seen) result }
+{
+    q.seen
 }
 
 // The values that the session or sessions that are asked about can have.
-pub fn who_values(users: [Found; 16], helpers: [u64; 4], own: Found, q: Question) -> [u64; 4]
-    ensures { Lanes (who_found users (lane_of helpers) own q) result }
+#[tactic(auto, unfolding(crate::specs::Asked::who_found))]
+pub fn who_values(users: &[Found; 16], helpers: [u64; 4], own: &Found, q: Question) -> [u64; 4]
+    ensures { Lanes (who_found users.now (lane_of helpers) own.now q) result }
 {
-    if q.whokind == Question::SESSION {
-        return seen_of(own);
+    match q.whokind {
+        Question::SESSION => own.seen,
+        Question::USER => match users.get(q.who as usize) {
+            Some(found) => seen_of(found),
+            None => lanes::none(),
+        },
+        _ => helpers,
     }
-    if q.whokind == Question::USER {
-        if q.who < 16 {
-            let found = users[q.who as usize];
-            return seen_of(found);
-        }
-        return lanes::none();
-    }
-    helpers
 }
 
-// The owner of the session that is asked about, or the user.
-fn aim_owner(starting: Sessions, q: Question) -> u8
-    ensures { result ≡ cond (eqb q.whokind 0) (get_or starting.users q.who 0) q.who }
+// Who is to act.
+fn actor_of(starting: &Sessions, q: Question) -> Actor
+    ensures { result ≡ actor_for starting.now q }
 {
-    if q.whokind == Question::SESSION {
-        return owner_of(starting, q.who as usize);
+    match q.whokind {
+        Question::SESSION => {
+            let session = starting.session(q.who as usize);
+            Actor::Session(q.who as u64, session.user)
+        }
+        Question::USER => Actor::User(q.who),
+        _ => Actor::Anyone,
     }
-    q.who
 }
 
 // What the leak aims at.
-pub fn aim_of(starting: Sessions, items: Values, q: Question, value: usize) -> Aim
-    ensures { result ≡ aim_of starting items q value }
+#[tactic(auto, unfolding(crate::specs::Asked::aim_of))]
+pub fn aim_of(starting: &Sessions, items: &Values, q: Question, value: u8) -> Aim
+    ensures { result ≡ aim_of starting.now items.now q value }
 {
-    let owner = aim_owner(starting, q);
     Aim {
-        whokind: q.whokind,
-        session: q.who as u64,
-        owner,
-        value: (value % 256) as u8,
+        actor: actor_of(starting, q),
+        value,
         items: items.count as u64,
         permission: q.permission,
     }
 }
 
-// The user that is asked about, or 255 where none is.
-pub fn asked_user(q: Question) -> u8
-    ensures { result ≡ cond (eqb q.whokind 1) q.who 255 }
+// The user that is asked about, if one is.
+pub fn asked_user(q: Question) -> Option<u8>
+    ensures { result ≡ cond (eqb q.whokind 1) (Some q.who) None }
 {
-    if q.whokind == Question::USER {
-        q.who
-    } else {
-        255
+    match q.whokind {
+        Question::USER => Some(q.who),
+        _ => None,
     }
 }

@@ -1,9 +1,8 @@
 -- Laws of the first hit.
 use mathlib.Core.Path.{◌≡◌, refl, sym, ap, ap₂, ◌∙◌}
-use mathlib.Core.Bool.{Bool, true, false, ◌&&◌, cond}
+use mathlib.Core.Bool.{Bool, true, false, ◌&&◌}
 use mathlib.Core.List.{List}
-use mathlib.Core.Logic.{◌⊎◌, ⊎_elim}
-use Prim.Native.Nat.{ℕ, zero, suc, ◌+◌, ◌≤◌, ◌<◌}
+use Prim.Native.Nat.{ℕ, zero, suc, ◌+◌, ◌≤◌, ◌<◌, min}
 use native.Mathlib.Decide.{dec_lt}
 use native.Mathlib.Omega.{arith}
 use borrow.Author.Tests.{lt-ltb, le-ltb, ltb-true}
@@ -54,17 +53,11 @@ module _ (m : Model) (permission : ℕ) (q : Found) where
         left false b e = e
 
   -- `own` are the values in the lists, `both` those among them that are asked about; n places are asked, and those below i have no hit
-  module _ (who own both : List ℕ) (S : Lanes m.session_value own) (B : Lanes (λ (v : ℕ). lane_of who v && lane_of own v) both)
-      (order : List ℕ) (O : order ≡ q.order) (n i : ℕ) (few : (n ≤ q.len) × (n ≤ 256) × ((n ≡ q.len) ⊎ (n ≡ 256)))
-      (none : (k : ℕ) → k < i → hit_on m permission (lane_of both) (get_or order k 0) ≡ 256) where
-    abbrev Hit : ℕ → ℕ → Type 0
-    Hit place value = (place ≡ hit_place m permission (lane_of who) q) × (value ≡ cond (ltb place 256) (hit_value m permission (lane_of who) q place) 256)
-
-    hit-on : (k : ℕ) → hit_on m permission (lane_of both) (get_or order k 0) ≡ hit_value m permission (lane_of who) q k
+  module _ (who own both : List ℕ) (S : Lanes m.session_value own) (B : Lanes (λ (v : ℕ). lane_of who v && lane_of own v) both) where
+    hit-on : (k : ℕ) → hit_on m permission (lane_of both) (get_or q.order k 0) ≡ hit_value m permission (lane_of who) q k
     unfolding hit_value
     hit-on k =
-        ap (λ (l : List ℕ). hit_on m permission (lane_of both) (get_or l k 0)) O
-        ∙ first-ext _ _ 0 256
+        first-ext _ _ 0 256
         (λ v h.
         ap (λ (b : Bool). b && accesses m permission v (get_or q.order k 0)) (B.each v h ∙ ap (λ (b : Bool). lane_of who v && b) (S.each v h))
         ∙ apart (lane_of who v) (m.session_value v) (accesses m permission v (get_or q.order k 0)))
@@ -73,27 +66,28 @@ module _ (m : Model) (permission : ℕ) (q : Found) where
         apart true s a = refl
         apart false s a = refl
 
-    before : (k : ℕ) → k < i → hit (lane_of who) k ≡ false
-    before k h = no_hit (lane_of who) k (sym (hit-on k) ∙ none k h)
+    module _ (n i : ℕ) (few : n ≡ min q.len 256) (none : (k : ℕ) → k < i → hit_on m permission (lane_of both) (get_or q.order k 0) ≡ 256) where
+      before : (k : ℕ) → k < i → hit (lane_of who) k ≡ false
+      before k h = no_hit (lane_of who) k (sym (hit-on k) ∙ none k h)
 
-    pub hit-here : (value : ℕ) → i < n → value < 256 → value ≡ hit_on m permission (lane_of both) (get_or order i 0) → Hit i value
-    hit-here value h l e =
-        let is = e ∙ hit-on i in (
-          hit-is (lane_of who) i (omega arith) (λ _. ap₂ ◌&&◌ (lt-ltb i q.len (omega arith)) (ap (λ (x : ℕ). ltb x 256) (sym is) ∙ lt-ltb value 256 l)) before,
-          is ∙ sym (ap (λ (b : Bool). cond b (hit_value m permission (lane_of who) q i) 256) (lt-ltb i 256 (omega arith))),
-        )
+      pub hit-here : (value : ℕ) → i < n → value < 256 → value ≡ hit_on m permission (lane_of both) (get_or q.order i 0)
+          → (i ≡ hit_place m permission (lane_of who) q) × (i < 256) × (value ≡ hit_value m permission (lane_of who) q i)
+      hit-here value h l e =
+          let is = e ∙ hit-on i in (
+            hit-is (lane_of who) i (omega arith) (λ _. ap₂ ◌&&◌ (lt-ltb i q.len (omega arith)) (ap (λ (x : ℕ). ltb x 256) (sym is) ∙ lt-ltb value 256 l)) before,
+            omega arith,
+            is,
+          )
 
-    pub hit-nowhere : n ≤ i → Hit 256 256
-    hit-nowhere h = (
-      hit-is (lane_of who) 256 (omega arith) (λ l. absurd (omega arith))
+      pub hit-nowhere : n ≤ i → hit_place m permission (lane_of who) q ≡ 256
+      hit-nowhere h =
+          sym
+          (hit-is (lane_of who) 256 (omega arith) (λ l. absurd (omega arith))
           (λ k l.
           elim (dec_lt k i) [
             | yes a ↦ before k a
-            | no a ↦ ap (λ (b : Bool). b && ltb (hit_value m permission (lane_of who) q k) 256)
-                (le-ltb k q.len (⊎_elim (λ (e : n ≡ q.len). let x : q.len ≤ k = omega arith in x) (λ (e : n ≡ 256). absurd (omega arith)) few.2))
-          ]),
-      refl,
-    )
+            | no a ↦ ap (λ (b : Bool). b && ltb (hit_value m permission (lane_of who) q k) 256) (le-ltb k q.len (omega arith))
+          ]))
 
   -- who is asked about counts below 256 only
   module _ (f g : ℕ → Bool) (same : (v : ℕ) → v < 256 → f v ≡ g v) where

@@ -23,13 +23,13 @@ pub fn replay_leak(
     ensures sessions_after { sessions.new ≡ (replayed (reading file.now) question.now rows.now sessions.old items.old).lent.sessions }
     ensures after { items.new ≡ (replayed (reading file.now) question.now rows.now sessions.old items.old).lent.items }
 {
-    let played = replay::replay(file, question, rows, sessions, items);
-    number_of(played)
+    number_of(replay::replay(file, question, rows, sessions, items))
 }
 
 // Answers a question of a file: 0 with the verdict (1 safe, 2 leak), how many pairs of user and session value can be open, how many values the
 // asked item can have, and how many rows the leak has, which then fill the front of `rows`, the rest as it was; or the first of the
 // file's number, 9, 10 and 11, and then all four are 0, the verdict too: none. Unless it is a leak `rows` is as it was.
+#[tactic(auto, unfolding(analyser::specs::Told::told_of, analyser::specs::Told::value_of, analyser::specs::Told::refused))]
 pub fn answer(
     file: &[u8],
     question: &[u8],
@@ -41,21 +41,23 @@ pub fn answer(
 ) -> u32
     ensures { Means file.now question.now rows.old rows.new record { number = result; verdict = verdict.new; pairs = pairs.new; values = values.new } count.new }
 {
-    let a = analyser::analyse(file, question, rows);
-    *pairs = a.pairs as u64;
-    *values = a.values as u64;
-    *count = a.rows as u64;
-    *verdict = 0;
-    let v = a.verdict;
-    match v {
-        Verdict::Refused(n) => n as u32,
-        Verdict::Safe => {
-            *verdict = 1;
+    match analyser::analyse(file, question, rows) {
+        Ok(answer) => {
+            *verdict = match answer.verdict {
+                Verdict::Safe => 1,
+                Verdict::Leak => 2,
+            };
+            *pairs = answer.pairs as u64;
+            *values = answer.values as u64;
+            *count = answer.rows as u64;
             0
         }
-        Verdict::Leak => {
-            *verdict = 2;
-            0
+        Err(refusal) => {
+            *verdict = 0;
+            *pairs = 0;
+            *values = 0;
+            *count = 0;
+            u32::from(u8::from(refusal))
         }
     }
 }

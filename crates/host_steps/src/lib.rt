@@ -2,13 +2,15 @@
 #![tactic(auto)]
 
 ghost use Rattle.std.specs.Prelude.{◌≡◌};
+ghost use Rattle.std.specs.Result.{result_unwrap_or};
 ghost use Rattle.rules.specs.Answers.{reading};
-ghost use Rattle.live.specs.Lent.{lent_as, host_number};
+ghost use Rattle.live.specs.Lent.{lent_as, leaves, refusal_of, host_number};
 ghost use Rattle.host_steps.specs.Steps.{host_started, host_stepped, host_steps};
 
-use live::{Next, Outcome, number_of};
-use replay::rows::steps_at;
-use rules::Reading;
+use live::{Next, number_of};
+use refusal::Refusal;
+use replay::rows::{Steps, steps_at};
+use rules::read_rules;
 
 // Starts a live state: 0 and the starting cells and next numbers written, or the file's number, or 15; then nothing changes.
 pub fn start(
@@ -21,17 +23,30 @@ pub fn start(
     ensures value { result ≡ host_number (host_started (reading file.now) (lent_as sessions.old items.old record { session = session.old; item = item.old })).refusal }
     ensures item_after { lent_as sessions.new items.new record { session = session.new; item = item.new } ≡ (host_started (reading file.now) (lent_as sessions.old items.old record { session = session.old; item = item.old })).lent }
 {
-    let s = starting::start(file, sessions, items);
-    let outcome = s.outcome;
-    match outcome {
-        Outcome::Refused(n) => n as u32,
-        Outcome::Done => {
-            let next = s.next;
-            *session = next.session;
-            *item = next.item;
-            0
-        }
-    }
+    let next = Next {
+        session: *session,
+        item: *item,
+    };
+    let begun = starting::start(file, sessions, items).outcome;
+    let first = begun.unwrap_or(next);
+    *session = first.session;
+    *item = first.item;
+    number_of(begun)
+}
+
+// Carries out a step with the rules of a file, and returns the next numbers; or why the file or the step is refused, and then nothing changes.
+#[tactic(auto, unfolding(crate::specs::Steps::host_stepped, rules::specs::Answers::answer_of, live::specs::Lent::refused))]
+fn stepped(
+    file: &[u8],
+    sessions: &mut [u64],
+    items: &mut [u64],
+    next: Next,
+    row: u64,
+) -> Result<Next, Refusal>
+    ensures { leaves result (result_unwrap_or result next) sessions.new items.new ≡ host_stepped (reading file.now) (lent_as sessions.old items.old next) row }
+{
+    let rules = read_rules(file).answer?;
+    monitor::step_at(rules, sessions, items, next, row)
 }
 
 // Carries out a step on a live state: 0, or the file's number, or 12 to 16 of the row; then nothing changes.
@@ -46,22 +61,29 @@ pub fn step(
     ensures value { result ≡ host_number (host_stepped (reading file.now) (lent_as sessions.old items.old record { session = session.old; item = item.old }) row).refusal }
     ensures item_after { lent_as sessions.new items.new record { session = session.new; item = item.new } ≡ (host_stepped (reading file.now) (lent_as sessions.old items.old record { session = session.old; item = item.old }) row).lent }
 {
-    let p = rules::read_rules(file);
-    let answer = p.answer;
-    match answer {
-        Reading::Refused(n) => n as u32,
-        Reading::Accepted => {
-            let next = Next {
-                session: *session,
-                item: *item,
-            };
-            let s = monitor::step_at(p.rules, sessions, items, next, row);
-            let after = s.next;
-            *session = after.session;
-            *item = after.item;
-            let outcome = s.outcome;
-            number_of(outcome)
-        }
+    let next = Next {
+        session: *session,
+        item: *item,
+    };
+    let came = stepped(file, sessions, items, next, row);
+    let after = came.unwrap_or(next);
+    *session = after.session;
+    *item = after.item;
+    number_of(came)
+}
+
+// Carries out rows with the rules of a file, up to the first that is refused; none, where the file is.
+#[tactic(auto, using(crate::proofs::Laws::rows_same), unfolding(crate::specs::Steps::host_steps, rules::specs::Answers::answer_of))]
+fn steps(file: &[u8], sessions: &mut [u64], items: &mut [u64], next: Next, rows: &[u64]) -> Steps
+    ensures { record { refusal = refusal_of result.outcome; lent = lent_as sessions.new items.new result.next; count = result.count } ≡ host_steps (reading file.now) (lent_as sessions.old items.old next) rows.now }
+{
+    match read_rules(file).answer {
+        Ok(rules) => steps_at(rules, sessions, items, next, rows),
+        Err(refusal) => Steps {
+            outcome: Err(refusal),
+            next,
+            count: 0,
+        },
     }
 }
 
@@ -81,23 +103,13 @@ pub fn step_all(
     ensures item_after { lent_as sessions.new items.new record { session = session.new; item = item.new } ≡ (host_steps (reading file.now) (lent_as sessions.old items.old record { session = session.old; item = item.old }) rows.now).lent }
     ensures done_after { done.new ≡ (host_steps (reading file.now) (lent_as sessions.old items.old record { session = session.old; item = item.old }) rows.now).count }
 {
-    *done = 0;
-    let p = rules::read_rules(file);
-    let answer = p.answer;
-    match answer {
-        Reading::Refused(n) => n as u32,
-        Reading::Accepted => {
-            let next = Next {
-                session: *session,
-                item: *item,
-            };
-            let ran = steps_at(p.rules, sessions, items, next, rows);
-            let stands = ran.next;
-            *session = stands.session;
-            *item = stands.item;
-            *done = ran.count as u64;
-            let came = ran.outcome;
-            number_of(came)
-        }
-    }
+    let next = Next {
+        session: *session,
+        item: *item,
+    };
+    let ran = steps(file, sessions, items, next, rows);
+    *session = ran.next.session;
+    *item = ran.next.item;
+    *done = ran.count as u64;
+    number_of(ran.outcome)
 }

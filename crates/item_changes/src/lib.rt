@@ -1,141 +1,89 @@
 // What sessions may change items to: a search from the values that are found.
 #![tactic(auto)]
 
-ghost use Rattle.std.specs.Prelude.{◌≡◌, ◌<◌};
-ghost use Rattle.lanes.specs.Lanes.{lane_of};
+ghost use Rattle.std.specs.Prelude.{◌≡◌, cond, ◌+◌, ◌<◌};
+ghost use Rattle.lanes.specs.Lanes.{lane_of, some_below};
+ghost use Rattle.runs.specs.Edge.{modifies_to};
 ghost use Rattle.allowed_rows.specs.Asked.{ModifyPrepared, ModifyReady};
 ghost use Rattle.allowed_rows.specs.Basis.{model_by, InLists};
 ghost use Rattle.allowed_rows.specs.Scratch.{Scratch};
-ghost use Rattle.search.specs.Items.{offered as offered_of, offered_by, items_at, grow_items};
-ghost use Rattle.search.specs.Lent.{found_of, Long};
+ghost use Rattle.search.specs.Queue.{unmet, spread};
+ghost use Rattle.search.specs.Items.{offered as offered_of, items_at, grow_items};
 
-use allowed_rows::{Basis, begin_item, modified_to, prepare};
+use allowed_rows::{Asked, Basis};
 use prepared::Plan;
-use search::queue::{Head, spread};
+use search::queue::Found;
 
-// What the session value 255 - k, if it is asked, may change an item with value o to, which stands at place i; asked of the values that aren't found
-// yet while there are any.
-fn offer(
-    order: &mut [u8],
-    links: &mut [u16],
-    head: Head,
-    basis: Basis,
-    nodes: &[u32],
-    area: &mut [u64],
-    steps: &[u64],
-    plan: Plan,
-    ready: [u64; 4],
-    o: u8,
-    i: usize,
-    k: usize,
-) -> Head
-    requires long { Long order.old links.old }
-    requires i_bound { (i < 256) × (k < 256) }
-    requires in_lists { InLists basis nodes.now }
-    requires modify_ready { ModifyReady basis nodes.now plan o steps.now area.old }
-    ensures links_after { found_of result order.new links.new ≡ offered_by (model_by basis nodes.now) (lane_of ready) o (found_of head order.old links.old) i k }
-    ensures modify_ready_2 { ModifyReady basis nodes.now plan o steps.now area.new }
+// What the session value v may change an item with value o to, which stands at place i; asked of the values that aren't found yet while there are any.
+fn offer(queue: &mut Found, basis: &Basis, area: &mut [u64], plan: &Plan, v: usize, o: u8, i: usize)
+    requires bounds { (i < 256) × (v < 256) }
+    requires in_lists { InLists basis.now }
+    requires modify_ready { ModifyReady basis.now plan.now o area.old }
+    ensures queue_after { queue.new ≡ cond (some_below (unmet (model_by basis.now).item_value queue.old) 256) (spread (modifies_to (model_by basis.now) v o) queue.old (i + 1) v) queue.old }
+    ensures modify_ready_after { ModifyReady basis.now plan.now o area.new }
 {
-    let v = 255 - k;
-    if !lanes::has(ready, v) {
-        return head;
-    }
-    let within = basis.items;
-    let seen = head.seen;
-    let unmet = lanes::minus(within, seen);
+    let unmet = lanes::minus(basis.items, queue.seen);
     if lanes::is_none(unmet) {
-        return head;
+        return;
     }
-    let row = modified_to(basis, nodes, area, steps, plan, v as u8, o, unmet);
-    spread(order, links, head, row, (i + 1) as u16, v as u16)
+    let row = basis.allowed(Asked::Modify, area, plan, o, v as u8, unmet);
+    queue.spread(row, i as u16 + 1, v as u16);
 }
 
 // By session values, the last first: what each may change an item with the value at place i to.
 fn offered(
-    order: &mut [u8],
-    links: &mut [u16],
-    head: Head,
-    basis: Basis,
-    nodes: &[u32],
+    queue: &mut Found,
+    basis: &Basis,
     area: &mut [u64],
-    steps: &[u64],
-    plan: Plan,
+    plan: &Plan,
     ready: [u64; 4],
     i: usize,
-) -> Head
-    requires long { Long order.old links.old }
+)
     requires i_bound { i < 256 }
-    requires in_lists { InLists basis nodes.now }
-    requires modify_prepared { ModifyPrepared basis nodes.now plan steps.now area.old }
-    ensures links_after { found_of result order.new links.new ≡ offered_of (model_by basis nodes.now) (lane_of ready) (found_of head order.old links.old) i 256 }
-    ensures modify_prepared_2 { ModifyPrepared basis nodes.now plan steps.now area.new }
+    requires in_lists { InLists basis.now }
+    requires modify_prepared { ModifyPrepared basis.now plan.now area.old }
+    ensures queue_after { queue.new ≡ offered_of (model_by basis.now) (lane_of ready) queue.old i 256 }
+    ensures modify_prepared_after { ModifyPrepared basis.now plan.now area.new }
 {
-    let o = order[i];
-    begin_item(basis, nodes, area, steps, plan, o);
-    let mut h = head;
-    for k in 0..256 {
-        let t = offer(
-            order, links, h, basis, nodes, area, steps, plan, ready, o, i, k,
-        );
-        h = t;
+    let o = queue.order[i];
+    basis.begin(Asked::Modify, area, plan, o);
+    for v in lanes::members(ready).rev() {
+        offer(queue, basis, area, plan, v, o, i);
     }
-    h
 }
 
 // From place i, if there is one, while some value isn't found yet.
 fn grow_at(
-    order: &mut [u8],
-    links: &mut [u16],
-    head: Head,
-    basis: Basis,
-    nodes: &[u32],
+    queue: &mut Found,
+    basis: &Basis,
     area: &mut [u64],
-    steps: &[u64],
-    plan: Plan,
+    plan: &Plan,
     ready: [u64; 4],
     i: usize,
-) -> Head
-    requires long { Long order.old links.old }
+)
     requires i_bound { i < 256 }
-    requires in_lists { InLists basis nodes.now }
-    requires modify_prepared { ModifyPrepared basis nodes.now plan steps.now area.old }
-    ensures links_after { found_of result order.new links.new ≡ items_at (model_by basis nodes.now) (lane_of ready) (found_of head order.old links.old) i }
-    ensures modify_prepared_2 { ModifyPrepared basis nodes.now plan steps.now area.new }
+    requires in_lists { InLists basis.now }
+    requires modify_prepared { ModifyPrepared basis.now plan.now area.old }
+    ensures queue_after { queue.new ≡ items_at (model_by basis.now) (lane_of ready) queue.old i }
+    ensures modify_prepared_after { ModifyPrepared basis.now plan.now area.new }
 {
-    if head.len <= i {
-        return head;
+    if queue.len <= i {
+        return;
     }
-    let within = basis.items;
-    let seen = head.seen;
-    if lanes::is_none(lanes::minus(within, seen)) {
-        return head;
+    if lanes::is_none(lanes::minus(basis.items, queue.seen)) {
+        return;
     }
-    offered(
-        order, links, head, basis, nodes, area, steps, plan, ready, i,
-    )
+    offered(queue, basis, area, plan, ready, i);
 }
 
-// From every place in turn.
-pub fn grow(
-    order: &mut [u8],
-    links: &mut [u16],
-    head: Head,
-    basis: Basis,
-    nodes: &[u32],
-    area: &mut [u64],
-    steps: &mut [u64],
-    ready: [u64; 4],
-) -> Head
-    requires long { Long order.old links.old }
-    requires in_lists { InLists basis nodes.now }
-    requires scratch { Scratch basis steps.old area.old }
-    ensures { found_of result order.new links.new ≡ grow_items (model_by basis nodes.now) (lane_of ready) (found_of head order.old links.old) 256 }
+// From every place in turn. The formula is prepared in `area`.
+pub fn grow(queue: &mut Found, basis: &Basis, area: &mut [u64], ready: [u64; 4])
+    requires in_lists { InLists basis.now }
+    requires scratch { Scratch basis.now area.old }
+    ensures { queue.new ≡ grow_items (model_by basis.now) (lane_of ready) queue.old 256 }
 {
-    let plan = prepare(basis, nodes, 3, 4, 1, 3, area, steps);
-    let mut h = head;
+    let plan = basis.prepare(Asked::Modify, area);
     for i in 0..256 {
-        let t = grow_at(order, links, h, basis, nodes, area, steps, plan, ready, i);
-        h = t;
+        grow_at(queue, basis, area, &plan, ready, i);
     }
-    h
 }

@@ -14,11 +14,11 @@ use Rattle.search.specs.Items.{ready_of}
 use Rattle.search.proofs.ItemLaws.{ready-lanes}
 use Rattle.search.proofs.Fewer.{Fewer}
 
-pub each_fewer : (b : Basis) (nodes helpers ready few : List ℕ) → InLists b nodes → Lanes (λ (v : ℕ). lane_of helpers v && lane_of b.sessions v) ready
-    → OneOfEach (lists_of b.classes) (nodes_at b nodes 3) 1 ready few → Fewer (model_by b nodes) (lane_of few) (ready_of (model_by b nodes) (lane_of helpers))
-each_fewer b nodes helpers ready few W R E =
-    let L = ready-lanes (model_by b nodes) helpers b.sessions ready W.sessions R in
+pub each_fewer : (b : Basis) (helpers ready few : List ℕ) → InLists b → Lanes (λ (v : ℕ). lane_of helpers v && lane_of b.sessions v) ready
+    → OneOfEach (lists_of b.classes) (nodes_at b 3) 1 ready few → Fewer (model_by b) (lane_of few) (ready_of (model_by b) (lane_of helpers))
+each_fewer b helpers ready few W R E =
+    let L = ready-lanes (model_by b) helpers b.sessions ready W.sessions R in
     record {
       inside = λ v h e. sym (L.each v h) ∙ E.inside v h e;
-      later = λ w h e. let (v, l, le, t, s) = E.later w h (L.each w h ∙ e) in (v, l, le, t, same-modifies b nodes v w s);
+      later = λ w h e. let (v, l, le, t, s) = E.later w h (L.each w h ∙ e) in (v, l, le, t, same-modifies b v w s);
     }

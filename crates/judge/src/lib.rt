@@ -5,7 +5,7 @@ ghost use Rattle.std.specs.Prelude.{◌≡◌};
 ghost use Rattle.policy.specs.Rules.{policy_of};
 ghost use Rattle.allowed.specs.Allowed.{model_of};
 ghost use Rattle.live.specs.declared.Next.{Next};
-ghost use Rattle.live.specs.Lent.{leaves, lent_as};
+ghost use Rattle.live.specs.Lent.{done, lent_as, lent_of};
 ghost use Rattle.steps.specs.Step.{step_in};
 ghost use Rattle.judge.specs.Judge.{applied_to};
 
@@ -13,79 +13,62 @@ mod items;
 mod numbers;
 mod sessions;
 
-use cells::Row;
-use live::{Next, Outcome, Stepped};
+use cells::{Kind, Row};
+use live::{LiveState, Next};
 use policy::Rules;
+use refusal::Refusal;
 
-// The cell that a step would write, its place and what it would hold: none, a session's or an item's.
+// A cell that a step writes, its place and what it then holds: a session's or an item's.
 #[derive(Clone, Copy)]
 pub enum Change {
-    Nothing,
     Session(usize, u64),
     Item(usize, u64),
 }
 
-// What a step would come to, the next numbers after it, and the cell that it would write.
+// What a step that is carried out leaves: the next numbers after it, and the cell that it writes, if it writes one.
 #[derive(Clone, Copy)]
 pub struct Judged {
-    pub outcome: Outcome,
     pub next: Next,
-    pub change: Change,
+    pub change: Option<Change>,
 }
 
-// Judges the step of a row: that it would be carried out, or its first number 12 to 16, and then nothing would change. Any cells, next numbers
+// Judges the step of a row: what it would leave, or its first number 12 to 16, and then nothing would change. Any cells, next numbers
 // and rules will do: they are taken as they read.
-pub fn judge(rules: Rules, sessions: &[u64], items: &[u64], next: Next, row: u64) -> Judged
-    ensures { applied_to result (lent_as sessions.now items.now next) ≡ step_in (model_of (policy_of rules)) (lent_as sessions.now items.now next) row }
+#[tactic(auto, using(steps::proofs::Laws::step_read, steps::proofs::Laws::kind_unknown), unfolding(steps::specs::Step::by_kind, live::specs::Lent::tested, live::specs::Lent::refused, refusal::specs::Number::number_of))]
+pub fn judge(rules: Rules, state: &LiveState, row: u64) -> Result<Judged, Refusal>
+    ensures { applied_to result (lent_of state.now) ≡ step_in (model_of (policy_of rules)) (lent_of state.now) row }
 {
     let r = Row::of(row);
     if r.spare != 0 {
-        return refused(next, 12);
+        return Err(Refusal::Row);
     }
-    let kind = r.kind;
-    match kind {
-        Row::OPEN => sessions::open_session(rules, sessions, next, r),
-        Row::CLOSE => sessions::close_session(rules, sessions, next, r),
-        Row::CHANGE_SESSION => sessions::change_session(rules, sessions, next, r),
-        Row::MAKE => items::make_item(rules, sessions, items, next, r),
-        Row::CHANGE_ITEM => items::change_item(rules, sessions, items, next, r),
-        Row::ACCESS => items::access_item(rules, sessions, items, next, r),
-        _ => refused(next, 12),
+    match Kind::try_from(r.kind)? {
+        Kind::Open => sessions::open_session(rules, state, r),
+        Kind::Close => sessions::close_session(rules, state, r),
+        Kind::ChangeSession => sessions::change_session(rules, state, r),
+        Kind::Make => items::make_item(rules, state, r),
+        Kind::ChangeItem => items::change_item(rules, state, r),
+        Kind::Access => items::access_item(rules, state, r),
     }
 }
 
-// Does what was judged: the cell is written where its slice has it, and every other stays as it was.
-pub fn apply(j: Judged, sessions: &mut [u64], items: &mut [u64]) -> Stepped
-    ensures { (next : Next) → leaves result.outcome result.next sessions.new items.new ≡ applied_to j (lent_as sessions.old items.old next) }
+// Does what was judged, and returns the next numbers: the cell is written where its slice has it, and every other stays as it was.
+#[tactic(auto, using(std::proofs::lemmas::List::set_past), unfolding(live::specs::Lent::done))]
+pub fn apply(judged: Judged, sessions: &mut [u64], items: &mut [u64]) -> Next
+    ensures { (next : Next) → done (lent_as sessions.new items.new result) ≡ applied_to (Ok judged) (lent_as sessions.old items.old next) }
 {
-    let outcome = j.outcome;
-    let next = j.next;
-    let stepped = Stepped { outcome, next };
-    let change = j.change;
-    match change {
-        Change::Nothing => stepped,
-        Change::Session(place, cell) => {
+    match judged.change {
+        None => {}
+        Some(Change::Session(place, cell)) => {
             if place < sessions.len() {
                 sessions[place] = cell;
             }
-            stepped
         }
-        Change::Item(place, cell) => {
+        Some(Change::Item(place, cell)) => {
             if place < items.len() {
                 items[place] = cell;
             }
-            stepped
         }
     }
-}
-
-// A number is given, and nothing changes.
-fn refused(next: Next, number: u8) -> Judged
-    ensures { result ≡ record { outcome = Outcome.Refused number; next = next; change = Change.Nothing } }
-{
-    Judged {
-        outcome: Outcome::Refused(number),
-        next,
-        change: Change::Nothing,
-    }
+    judged.next
 }

@@ -5,7 +5,6 @@ use mathlib.Core.Bool.{true}
 use mathlib.Core.List.{List, ◌++◌}
 use Prim.Native.Nat.{ℕ, ◌+◌, ◌-◌, ◌≤◌, ◌<◌}
 use native.Mathlib.Omega.{arith}
-use borrow.Author.Tests.{eq-eqb, ne_eqb}
 use lib.ListN.{length, get_or, set, length-append}
 use Rattle.lanes.specs.Lanes.{lane_of}
 use Rattle.runs.specs.Model.{Model}
@@ -22,9 +21,11 @@ use Rattle.search.proofs.Paths.{seen-place}
 use Rattle.search.proofs.Theorems.{own-is-searched}
 use Rattle.session_rows.specs.Writing.{Writing, wrote}
 use Rattle.session_rows.specs.Way.{way_rows, helped, helped_by}
-use Rattle.leak.specs.Leak.{actor_ready, actor_of}
+use Rattle.leak.specs.Leak.{actor_ready, actor_of, ready_by, number_by}
 use Rattle.leak.specs.Standing.{WhoAimed}
 use Rattle.leak.specs.declared.Aim.{Aim}
+use Rattle.leak.specs.declared.Actor.{Actor}
+use Rattle.leak.specs.declared.Actor.TheVariants.{Session as ActingSession, User, Anyone}
 use Rattle.leak.proofs.Rows.{Done, done-append}
 use Rattle.leak.proofs.Ways.{search-within, way-short, way-length, way-own}
 use Rattle.leak.proofs.Helpers.{longer, wrote-fits, Sofar, stands-done, Able, Helps, HelpsBy, helps-open, helps-small, helped-helps, helped_by-helps}
@@ -91,25 +92,13 @@ module _ (m : Model) (start : State) (n room : ℕ) (users : List Found) (by : L
 
 module _ (room : ℕ) (users : List Found) (by : List ℕ) (own : Found) (a : Aim) (w : Writing) where
   -- by who is asked about
-  ready-session : a.whokind ≡ 0 → actor_ready room users by own a w ≡ wrote room (way_rows own (place_at own a.value - 1) 1 a.owner a.session) w
+  ready-is : (who : Actor) → a.actor ≡ who → actor_ready room users by own a w ≡ ready_by room users by own a.value who w
   unfolding actor_ready
-  ready-session e = rw (eq-eqb a.whokind 0 e) refl
+  ready-is who e = rw e refl
 
-  ready-user : a.whokind ≡ 1 → actor_ready room users by own a w ≡ helped_by room users by a.owner a.value w
-  unfolding actor_ready
-  ready-user e = rw (e) refl
-
-  ready-anyone : a.whokind ≡ 2 → actor_ready room users by own a w ≡ helped room users by a.value w
-  unfolding actor_ready
-  ready-anyone e = rw (e) refl
-
-  actor-session : a.whokind ≡ 0 → actor_of room users by a w ≡ a.session
+  actor-is : (who : Actor) → a.actor ≡ who → actor_of room users by a w ≡ number_by room users by a.value who w
   unfolding actor_of
-  actor-session e = rw (e) refl
-
-  actor-stands : 0 < a.whokind → actor_of room users by a w ≡ get_or w.number a.value 0 - 1
-  unfolding actor_of
-  actor-stands h = rw (ne_eqb a.whokind 0 (λ e. omega arith)) refl
+  actor-is who e = rw e refl
 
 module _ (m : Model) (start : State) (n room : ℕ) (users : List Found) (by : List ℕ) (A : Able m start n users by) (b : Brought m start)
     (c : ℕ) (items : List Item) (w : Writing) (S : Sofar m start c items w) (r : c + n ≤ room) (f : c + n ≤ 66049) (own : Found) (a : Aim) (v : a.value < 256) where
@@ -130,18 +119,19 @@ module _ (m : Model) (start : State) (n room : ℕ) (users : List Found) (by : L
 
   pub actor-acts : (who : Who) → WhoAimed m start by own a who
       → Acting m start (c + n) who (actor_of room users by a (actor_ready room users by own a w)) a.value items (actor_ready room users by own a w).rows
-  actor-acts (session j) (k, s, (held, e, h, o), t) =
-      let t' : lane_of (own_found m a.owner held).seen a.value ≡ true = rw o at t in
-      rw (actor-session room users by own a (actor_ready room users by own a w) k, ready-session room users by own a w k, s, o)
-      (session-acts m start n room users by A b c items w S r f j a.owner held a.value e h v t')
-  actor-acts (user u) (k, o, h, t) =
+  unfolding ready_by number_by
+  actor-acts (session j) ((owner, k, (held, e, h, o)), t) =
+      let t' : lane_of (own_found m owner held).seen a.value ≡ true = rw o at t in
+      rw (actor-is room users by own a (actor_ready room users by own a w) (ActingSession j owner) k, ready-is room users by own a w (ActingSession j owner) k, o)
+      (session-acts m start n room users by A b c items w S r f j owner held a.value e h v t')
+  actor-acts (user u) (k, h, t) =
       let x : Writing = helped_by room users by u a.value w in
       let p : HelpsBy m start n room users by A (c + n) items u a.value x = helped_by-helps m start n room users by A c items w S r f u a.value h v t in
-      rw (actor-stands room users by own a (actor_ready room users by own a w) (omega arith), ready-user room users by own a w k, o)
+      rw (actor-is room users by own a (actor_ready room users by own a w) (User u) k, ready-is room users by own a w (User u) k)
       (helper-acts (user u) x p.helps
       (a.value, helps-open m start n room users by A (c + n) items a.value x v p.helps ∙ ap (λ (z : ℕ). opened z a.value) p.owned))
   actor-acts anyone (k, t) =
       let x : Writing = helped room users by a.value w in
       let p : Helps m start n room users by A (c + n) items a.value x = helped-helps m start n room users by A c items w S r f a.value v t in
-      rw (actor-stands room users by own a (actor_ready room users by own a w) (omega arith), ready-anyone room users by own a w k)
+      rw (actor-is room users by own a (actor_ready room users by own a w) Anyone k, ready-is room users by own a w Anyone k)
       (helper-acts anyone x p tt)

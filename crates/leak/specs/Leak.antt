@@ -8,6 +8,8 @@ use Rattle.search.specs.declared.queue.Found.{Found}
 use Rattle.session_rows.specs.Writing.{Writing, row_of, wrote}
 use Rattle.session_rows.specs.Way.{way_rows, helped, helped_by}
 use Rattle.leak.specs.declared.Aim.{Aim}
+use Rattle.leak.specs.declared.Actor.{Actor}
+use Rattle.leak.specs.declared.Actor.TheVariants.{Session, User, Anyone}
 
 module _ (room : ℕ) (users : List Found) (by : List ℕ) where
   -- a session that stands open with value v does a step of the kind on item t with value o
@@ -29,15 +31,23 @@ module _ (room : ℕ) (users : List Found) (by : List ℕ) where
   unfoldable pub item_of : Found → ℕ → ℕ → ℕ
   item_of q pos items = let v = via_at q (way_at q pos 0) in cond (leb 256 v) (v - 256) items
 
-  -- the session that acts, by who is asked about: a session (its own search, its number and owner), a user, or anyone
+  -- the session that acts is brought to value v: a starting session by its own search, one of a user, or any
+  unfoldable pub ready_by : Found → ℕ → Actor → Writing → Writing
+  ready_by own v (Session number owner) w = wrote room (way_rows own (place_at own v - 1) 1 owner number) w
+  ready_by own v (User u) w = helped_by room users by u v w
+  ready_by own v Anyone w = helped room users by v w
+
   unfoldable pub actor_ready : Found → Aim → Writing → Writing
-  actor_ready own a w =
-      cond (eqb a.whokind 0) (wrote room (way_rows own (place_at own a.value - 1) 1 a.owner a.session) w)
-      (cond (eqb a.whokind 1) (helped_by room users by a.owner a.value w)
-      (helped room users by a.value w))
+  actor_ready own a w = ready_by own a.value a.actor w
+
+  -- its number
+  unfoldable pub number_by : ℕ → Actor → Writing → ℕ
+  number_by v (Session number owner) w = number
+  number_by v (User u) w = get_or w.number v 0 - 1
+  number_by v Anyone w = get_or w.number v 0 - 1
 
   unfoldable pub actor_of : Aim → Writing → ℕ
-  actor_of a w = cond (eqb a.whokind 0) a.session (get_or w.number a.value 0 - 1)
+  actor_of a w = number_by a.value a.actor w
 
   -- the whole leak: the item at place pos of the search q, the actor, the access
   unfoldable pub leak_written : Found → ℕ → Found → Aim → Writing → Writing

@@ -18,6 +18,7 @@ use Rattle.search.specs.declared.queue.Found.{Found}
 use Rattle.session_rows.specs.Writing.{Writing}
 use Rattle.user_results.specs.Found.{named}
 use Rattle.leak.specs.declared.Aim.{Aim}
+use Rattle.leak.specs.declared.Actor.TheVariants.{Session, User, Anyone}
 
 -- the rows were carried out from the start to s; the next number is s's; and the sessions that are said to stand open do
 pub record Stands (m : Model) (start : State) (w : Writing) (s : State) : Type 0 where
@@ -37,10 +38,10 @@ pub record Ready (m : Model) (users : List Found) (by : List ℕ) : Type 0 where
 -- who is asked about, as the aim says it, can have the aim's value
 abbrev pub WhoAimed : Model → State → List ℕ → Found → Aim → Who → Type 0
 WhoAimed m start by own a (session j) =
-    (a.whokind ≡ 0) × (a.session ≡ j) × ((held : ℕ) × (session_at start j ≡ opened a.owner held) × (held < 256) × (own ≡ own_found m a.owner held))
+    ((owner : ℕ) × (a.actor ≡ Session j owner) × ((held : ℕ) × (session_at start j ≡ opened owner held) × (held < 256) × (own ≡ own_found m owner held)))
     × (lane_of own.seen a.value ≡ true)
-WhoAimed m start by own a (user u) = (a.whokind ≡ 1) × (a.owner ≡ u) × (u < m.users) × (lane_of (sessions_found m u).seen a.value ≡ true)
-WhoAimed m start by own a anyone = (a.whokind ≡ 2) × (named by a.value ≡ true)
+WhoAimed m start by own a (user u) = (a.actor ≡ User u) × (u < m.users) × (lane_of (sessions_found m u).seen a.value ≡ true)
+WhoAimed m start by own a anyone = (a.actor ≡ Anyone) × (named by a.value ≡ true)
 
 -- the way to place pos is one of an item that is asked about
 abbrev pub WhichAimed : Found → ℕ → Which → Type 0

@@ -9,162 +9,142 @@ ghost use Rattle.leak.specs.Turn.{item_turn};
 ghost use Rattle.leak.specs.Leak.{linked, item_to, item_of, actor_ready, actor_of, leak_written};
 
 use cells::Row;
-use replay::question::Question;
 use search::queue::Found;
-use session_rows::{Pen, end};
+use session_rows::end::row_of;
+use session_rows::{Pen, Searches};
 
-// What a leak aims at: who is asked about (0 a starting session, with its owner; 1 a user; 2 anyone), the value that the actor is to have, how many
-// starting items there are, and the permission.
+// Who is asked about: a starting session, by its number and with its owner; a user's sessions; or any session.
+#[derive(Clone, Copy)]
+pub enum Actor {
+    Session(u64, u8),
+    User(u8),
+    Anyone,
+}
+
+// What a leak aims at: who is asked about, the value that the actor is to have, how many starting items there are, and the permission.
 #[derive(Clone, Copy)]
 pub struct Aim {
-    pub whokind: u8,
-    pub session: u64,
-    pub owner: u8,
+    pub actor: Actor,
     pub value: u8,
     pub items: u64,
     pub permission: u8,
 }
 
 // A session that stands open with value v does a step of the kind on item t with value o.
-fn link(
-    rows: &mut [u64],
-    pen: Pen,
-    users: [Found; 16],
-    by: [u8; 256],
-    kind: u64,
-    v: usize,
-    t: u64,
-    o: u8,
-) -> Pen
-    requires { (pen.at ≤ length rows.old) × (pen.next < 1000000) }
-    ensures rows_after { writing_of result rows.new ≡ linked (length rows.old) users by kind v t o (writing_of pen rows.old) }
-    ensures wrote { Wrote pen rows.old result rows.new }
+#[tactic(auto, using(session_rows::proofs::Laws::kept_on), unfolding(crate::specs::Leak::linked))]
+fn link(pen: &mut Pen, rows: &mut [u64], searches: &Searches, kind: u64, v: usize, t: u64, o: u8)
+    requires { (pen.old.at ≤ length rows.old) × (pen.old.next < 1000000) }
+    ensures rows_after { writing_of pen.new rows.new ≡ linked (length rows.old) searches.now.users.now searches.now.by kind v t o (writing_of pen.old rows.old) }
+    ensures wrote { Wrote pen.old rows.old pen.new rows.new }
 {
-    let h = session_rows::help(rows, pen, users, by, v);
-    let actor = end::before(end::number_at(h, v) as u64);
-    end::put(rows, h, end::row_of(kind, actor, t, o as u64))
+    pen.help(rows, searches, v);
+    let actor = pen.number_at(v).saturating_sub(1) as u64;
+    pen.put(rows, row_of(kind, actor, t, o as u64));
 }
 
 // Step j on the way to place pos of the search of items: a start that is made, or that stands; or a link.
+#[tactic(auto, unfolding(crate::specs::Turn::item_turn))]
 fn item_step(
+    pen: &mut Pen,
     rows: &mut [u64],
-    pen: Pen,
-    users: [Found; 16],
-    by: [u8; 256],
-    q: Found,
+    searches: &Searches,
+    q: &Found,
     pos: usize,
     t: u64,
     j: usize,
-) -> Pen
-    requires { (pen.at ≤ length rows.old) × (pen.next < 1000000) }
-    ensures rows_after { writing_of result rows.new ≡ item_turn (length rows.old) users by q pos t j (writing_of pen rows.old) }
-    ensures wrote { Wrote pen rows.old result rows.new }
+)
+    requires { (pen.old.at ≤ length rows.old) × (pen.old.next < 1000000) }
+    ensures rows_after { writing_of pen.new rows.new ≡ item_turn (length rows.old) searches.now.users.now searches.now.by q.now pos t j (writing_of pen.old rows.old) }
+    ensures wrote { Wrote pen.old rows.old pen.new rows.new }
 {
-    let via = session_rows::via_at(q, session_rows::way_at(q, pos, j)) as usize;
-    let o = session_rows::way_value(q, pos, j);
+    let place = q.way_at(pos, j);
+    let via = q.via_at(place) as usize;
     if j != 0 {
-        return link(rows, pen, users, by, Row::CHANGE_ITEM, via, t, o);
+        link(
+            pen,
+            rows,
+            searches,
+            Row::CHANGE_ITEM,
+            via,
+            t,
+            q.value_at(place),
+        );
+    } else if via < 256 {
+        link(pen, rows, searches, Row::MAKE, via, t, q.value_at(place));
     }
-    if 256 <= via {
-        return pen;
-    }
-    link(rows, pen, users, by, Row::MAKE, via, t, o)
 }
 
 // The item is brought to the value at place pos of the search q.
-fn bring_item(
-    rows: &mut [u64],
-    pen: Pen,
-    users: [Found; 16],
-    by: [u8; 256],
-    q: Found,
-    pos: usize,
-    t: u64,
-) -> Pen
-    requires { (pen.at ≤ length rows.old) × (pen.next < 900000) × (depth_at q pos < 256) }
-    ensures rows_after { writing_of result rows.new ≡ item_to (length rows.old) users by q pos t (depth_at q pos + 1) (writing_of pen rows.old) }
-    ensures wrote { Wrote pen rows.old result rows.new }
+fn bring_item(pen: &mut Pen, rows: &mut [u64], searches: &Searches, q: &Found, pos: usize, t: u64)
+    requires { (pen.old.at ≤ length rows.old) × (pen.old.next < 900000) × (depth_at q.now pos < 256) }
+    ensures rows_after { writing_of pen.new rows.new ≡ item_to (length rows.old) searches.now.users.now searches.now.by q.now pos t (depth_at q.now pos + 1) (writing_of pen.old rows.old) }
+    ensures wrote { Wrote pen.old rows.old pen.new rows.new }
 {
-    let steps = session_rows::depth_at(q, pos) as usize + 1;
-    let mut p = pen;
+    let steps = q.depth_at(pos) as usize + 1;
     for j in 0..steps {
-        let t1 = item_step(rows, p, users, by, q, pos, t, j);
-        p = t1;
+        item_step(pen, rows, searches, q, pos, t, j);
     }
-    p
 }
 
 // The item that the way to place pos is of: a starting one, or the next one.
-fn item_of(q: Found, pos: usize, items: u64) -> u64
-    ensures { (room : ℕ) (users : List Found) (by : List ℕ) → result ≡ item_of room users by q pos items }
+#[tactic(auto, unfolding(crate::specs::Leak::item_of))]
+fn item_of(q: &Found, pos: usize, items: u64) -> u64
+    ensures { (room : ℕ) (users : List Found) (by : List ℕ) → result ≡ item_of room users by q.now pos items }
 {
-    let via = session_rows::via_at(q, session_rows::way_at(q, pos, 0)) as u64;
-    if 256 <= via { via - 256 } else { items }
+    let via = q.via_at(q.way_at(pos, 0)) as u64;
+    via.checked_sub(256).unwrap_or(items)
 }
 
 // The session that acts is brought to its value.
-fn ready_actor(
-    rows: &mut [u64],
-    pen: Pen,
-    users: [Found; 16],
-    by: [u8; 256],
-    own: Found,
-    aim: Aim,
-) -> Pen
-    requires { (pen.at ≤ length rows.old) × (pen.next < 1000000) }
-    ensures rows_after { writing_of result rows.new ≡ actor_ready (length rows.old) users by own aim (writing_of pen rows.old) }
-    ensures wrote { Wrote pen rows.old result rows.new }
+#[tactic(auto, unfolding(crate::specs::Leak::actor_ready, crate::specs::Leak::ready_by))]
+fn ready_actor(pen: &mut Pen, rows: &mut [u64], searches: &Searches, own: &Found, aim: &Aim)
+    requires { (pen.old.at ≤ length rows.old) × (pen.old.next < 1000000) }
+    ensures rows_after { writing_of pen.new rows.new ≡ actor_ready (length rows.old) searches.now.users.now searches.now.by own.now aim.now (writing_of pen.old rows.old) }
+    ensures wrote { Wrote pen.old rows.old pen.new rows.new }
 {
     let v = aim.value as usize;
-    if aim.whokind == Question::SESSION {
-        return session_rows::write_way(
-            rows,
-            pen,
-            own,
-            session_rows::place_of(own, v),
-            1,
-            aim.owner,
-            aim.session,
-        );
+    match aim.actor {
+        Actor::Session(number, owner) => {
+            pen.write_way(rows, own, own.place_of(v), 1, owner, number);
+        }
+        Actor::User(u) => {
+            pen.help_by(rows, searches, u, v);
+        }
+        Actor::Anyone => {
+            pen.help(rows, searches, v);
+        }
     }
-    if aim.whokind == Question::USER {
-        return session_rows::help_by(rows, pen, users, by, aim.owner, v);
-    }
-    session_rows::help(rows, pen, users, by, v)
 }
 
 // The number of the session that acts.
-fn actor_of(pen: Pen, aim: Aim) -> u64
-    ensures { (room : ℕ) (users : List Found) (by : List ℕ) (rows : List ℕ) → result ≡ actor_of room users by aim (writing_of pen rows) }
+#[tactic(auto, unfolding(crate::specs::Leak::actor_of, crate::specs::Leak::number_by))]
+fn actor_of(pen: &Pen, aim: &Aim) -> u64
+    ensures { (room : ℕ) (users : List Found) (by : List ℕ) (rows : List ℕ) → result ≡ actor_of room users by aim.now (writing_of pen.now rows) }
 {
-    if aim.whokind == Question::SESSION {
-        return aim.session;
+    match aim.actor {
+        Actor::Session(number, _) => number,
+        _ => pen.number_at(aim.value as usize).saturating_sub(1) as u64,
     }
-    end::before(end::number_at(pen, aim.value as usize) as u64)
 }
 
 // Writes the rows of a leak: the item at place pos of the search q, the actor (by its own search where a session is asked about), the access.
+#[tactic(auto, using(session_rows::proofs::Laws::kept_on), unfolding(crate::specs::Leak::leak_written))]
 pub fn write_leak(
+    pen: &mut Pen,
     rows: &mut [u64],
-    pen: Pen,
-    users: [Found; 16],
-    by: [u8; 256],
-    q: Found,
+    searches: &Searches,
+    q: &Found,
     pos: usize,
-    own: Found,
-    aim: Aim,
-) -> Pen
-    requires { (pen.at ≤ length rows.old) × (pen.next < 900000) × (depth_at q pos < 256) }
-    ensures rows_after { writing_of result rows.new ≡ leak_written (length rows.old) users by q pos own aim (writing_of pen rows.old) }
-    ensures wrote { Wrote pen rows.old result rows.new }
+    own: &Found,
+    aim: &Aim,
+)
+    requires { (pen.old.at ≤ length rows.old) × (pen.old.next < 900000) × (depth_at q.now pos < 256) }
+    ensures rows_after { writing_of pen.new rows.new ≡ leak_written (length rows.old) searches.now.users.now searches.now.by q.now pos own.now aim.now (writing_of pen.old rows.old) }
+    ensures wrote { Wrote pen.old rows.old pen.new rows.new }
 {
     let t = item_of(q, pos, aim.items);
-    let i = bring_item(rows, pen, users, by, q, pos, t);
-    let s = ready_actor(rows, i, users, by, own, aim);
-    let actor = actor_of(s, aim);
-    end::put(
-        rows,
-        s,
-        end::row_of(Row::ACCESS, actor, t, aim.permission as u64),
-    )
+    bring_item(pen, rows, searches, q, pos, t);
+    ready_actor(pen, rows, searches, own, aim);
+    let actor = actor_of(pen, aim);
+    pen.put(rows, row_of(Row::ACCESS, actor, t, aim.permission as u64));
 }

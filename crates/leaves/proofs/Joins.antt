@@ -1,6 +1,6 @@
 -- Laws of comparisons by the values of a field. In order: the sides of a comparison; a row where it is asked for; the rows of the values that a comparison holds of,
--- one after another; fields of the lane's number, and operands with few values; the number of an operand in a lane; operands that no lane changes; lane by lane; the ways to compare.
-use mathlib.Core.Path.{◌≡◌, refl, sym, ap, ap₂, ◌∙◌}
+-- one after another; operands with few values; the number of an operand in a lane; operands that no lane changes; lane by lane.
+use mathlib.Core.Path.{◌≡◌, refl, sym, ap, ap₂, ◌∙◌, subst}
 use mathlib.Core.Bool.{Bool, true, false, ◌&&◌, ◌||◌, and-true, and-false, or-false}
 use mathlib.Core.List.{List}
 use Prim.Native.Nat.{ℕ, ◌+◌, ◌*◌, ◌/◌, ◌%◌, ◌^◌, ◌≤◌, ◌<◌}
@@ -19,7 +19,9 @@ use Rattle.planes.specs.declared.operand.Operand.{Operand}
 use Rattle.planes.proofs.Numbers.{number-plain}
 use Rattle.bitsets.specs.Rows.{bit_at}
 use Rattle.sides.specs.Side.{operand_at}
-use Rattle.leaves.specs.Values.{Hot, sided, LaneField, Few, Way}
+use Rattle.sides.specs.declared.Field.{Field}
+use Rattle.leaves.specs.Values.{Hot, sided}
+use Rattle.leaves.specs.Ways.{Few}
 use Rattle.sides.specs.declared.Side.{Side}
 
 pub sided-second : (second : Bool) (op x m y n : ℕ) → second ≡ true → compared_by op y n x m ≡ sided second op x m y n
@@ -58,31 +60,37 @@ module _ (F : ℕ → ℕ) (g : ℕ → Bool) (r : List ℕ) where
   pub join-end : (n : ℕ) (t : List ℕ) → Hot F n t → Lanes (λ v. ltb (F v) n && g (F v)) r → Lanes (λ v. g (F v)) r
   join-end n t H R = lanes-as _ _ r R (λ v h. ap (λ (b : Bool). b && g (F v)) (lt-ltb (F v) n (H.below v h)))
 
--- a field of the lane's number
-module _ (x : Side) (f : LaneField x) (i v : ℕ) where
-  number-field : number_in (operand_at x i) v ≡ v / 2 ^ x.shift % 2 ^ x.bits
+-- operands of which x is a field of the lane's number with few values
+module _ (g : Field) (x y : Side) (hot : List ℕ) (f : Few g x y hot) (op i v : ℕ) where
+  number-field : number_in (operand_at x i) v ≡ v / 2 ^ g.shift % 2 ^ g.bits
   unfolding number_in operand_at
   number-field =
-      rw (f.lane, f.zero)
-      (ap (λ (q : ℕ). q * 2 ^ x.bits + v / 2 ^ x.shift % 2 ^ x.bits) (zero-div (2 ^ x.bits)) ∙ ap (λ (q : ℕ). q + v / 2 ^ x.shift % 2 ^ x.bits) (zero-mul (2 ^ x.bits))
-      ∙ zero-add (v / 2 ^ x.shift % 2 ^ x.bits))
+      rw f.field
+      (ap (λ (q : ℕ). q * 2 ^ g.bits + v / 2 ^ g.shift % 2 ^ g.bits) (zero-div (2 ^ g.bits)) ∙ ap (λ (q : ℕ). q + v / 2 ^ g.shift % 2 ^ g.bits) (zero-mul (2 ^ g.bits))
+      ∙ zero-add (v / 2 ^ g.shift % 2 ^ g.bits))
 
-  size-field : (operand_at x i).size ≡ x.size
+  size-field : (operand_at x i).size ≡ g.size
   unfolding operand_at
-  size-field = refl
+  size-field = rw f.field refl
 
--- operands of which x has few values
-module _ (x y : Side) (hot : List ℕ) (f : Few x y hot) (op i v : ℕ) where
   number-other : number_in (operand_at y i) v ≡ (operand_at y i).number
   number-other = number-plain (operand_at y i) v (f.plain i)
 
-  pub few-first : sided false op (v / 2 ^ x.shift % 2 ^ x.bits) x.size (operand_at y i).number (operand_at y i).size ≡ compared_in op (operand_at x i) (operand_at y i) v
+  few-first : sided false op (v / 2 ^ g.shift % 2 ^ g.bits) g.size (operand_at y i).number (operand_at y i).size ≡ compared_in op (operand_at x i) (operand_at y i) v
   unfolding sided compared_in
-  few-first = sym (rw (number-field x f.field i v, number-other, size-field x f.field i v) refl)
+  few-first = sym (rw (number-field, number-other, size-field) refl)
 
-  pub few-second : sided true op (v / 2 ^ x.shift % 2 ^ x.bits) x.size (operand_at y i).number (operand_at y i).size ≡ compared_in op (operand_at y i) (operand_at x i) v
+  few-second : sided true op (v / 2 ^ g.shift % 2 ^ g.bits) g.size (operand_at y i).number (operand_at y i).size ≡ compared_in op (operand_at y i) (operand_at x i) v
   unfolding sided compared_in
-  few-second = sym (rw (number-field x f.field i v, number-other, size-field x f.field i v) refl)
+  few-second = sym (rw (number-field, number-other, size-field) refl)
+
+-- a comparison by the values of x, where o is the operand of y in row i
+module _ (g : Field) (x y : Side) (hot : List ℕ) (f : Few g x y hot) (op i : ℕ) (o : Operand) (r : List ℕ) (e : o ≡ operand_at y i) where
+  pub joined-first : Lanes (λ v. sided false op (v / 2 ^ g.shift % 2 ^ g.bits) g.size o.number o.size) r → Lanes (compared_in op (operand_at x i) (operand_at y i)) r
+  joined-first L = lanes-as _ _ r (subst (λ (o : Operand). Lanes (λ v. sided false op (v / 2 ^ g.shift % 2 ^ g.bits) g.size o.number o.size) r) e L) (λ v h. few-first g x y hot f op i v)
+
+  pub joined-second : Lanes (λ v. sided true op (v / 2 ^ g.shift % 2 ^ g.bits) g.size o.number o.size) r → Lanes (compared_in op (operand_at y i) (operand_at x i)) r
+  joined-second L = lanes-as _ _ r (subst (λ (o : Operand). Lanes (λ v. sided true op (v / 2 ^ g.shift % 2 ^ g.bits) g.size o.number o.size) r) e L) (λ v h. few-second g x y hot f op i v)
 
 -- the number of an operand in a lane: its field, and above it what is left of one number
 module _ (o : Operand) (v : ℕ) where
@@ -138,14 +146,3 @@ module _ (f : ℕ → Bool) (r : List ℕ) where
 
   pub below_end : (n : ℕ) → 256 ≤ n → Lanes (λ w. ltb w n && f w) r → Lanes f r
   below_end n l R = lanes-as _ _ r R (λ w h. ap (λ (b : Bool). b && f w) (lt-ltb w n (omega arith)))
-
--- the ways to compare
-module _ (x y : Side) (hot : List ℕ) where
-  pub way-first : Few x y hot → Way 1 x y hot
-  way-first f = record { first = λ e. f; second = λ e. absurd (omega arith) }
-
-  pub way-second : Few y x hot → Way 2 x y hot
-  way-second f = record { first = λ e. absurd (omega arith); second = λ e. f }
-
-  pub way-none : Way 0 x y hot
-  way-none = record { first = λ e. absurd (omega arith); second = λ e. absurd (omega arith) }

@@ -2,6 +2,7 @@
 use mathlib.Core.Path.{◌≡◌, refl, sym, ap, ap₂, ◌∙◌, subst}
 use mathlib.Core.Bool.{Bool, true, false, not, ◌&&◌, xor, cond, and-true, and-false}
 use mathlib.Core.List.{List, [], ◌∷◌}
+use lib.ListN.{get_or, length, replicate}
 use Prim.Native.Nat.{ℕ, ◌+◌, ◌-◌, ◌*◌, ◌/◌, ◌%◌, ◌^◌, ◌≤◌, ◌<◌}
 use native.Mathlib.Decide.{ℕ_discrete, dec_lt}
 use native.Mathlib.Nat.{mod-lt, zero-mul, zero-add, one-mul}
@@ -15,21 +16,24 @@ use Rattle.planes.proofs.Numbers.{bit-out}
 use Rattle.bitsets.specs.Rows.{bit_at, Rows, put}
 use Rattle.leaves.specs.Values.{Hot, parted}
 
--- the bits of the lanes' numbers, four words a bit
-abbrev pub bits : List ℕ
-bits =
-    12297829382473034410 ∷ 12297829382473034410 ∷ 12297829382473034410 ∷ 12297829382473034410
-    ∷ 14757395258967641292 ∷ 14757395258967641292 ∷ 14757395258967641292 ∷ 14757395258967641292
-    ∷ 17361641481138401520 ∷ 17361641481138401520 ∷ 17361641481138401520 ∷ 17361641481138401520
-    ∷ 18374966859414961920 ∷ 18374966859414961920 ∷ 18374966859414961920 ∷ 18374966859414961920
-    ∷ 18446462603027742720 ∷ 18446462603027742720 ∷ 18446462603027742720 ∷ 18446462603027742720
-    ∷ 18446744069414584320 ∷ 18446744069414584320 ∷ 18446744069414584320 ∷ 18446744069414584320
-    ∷ 0 ∷ 18446744073709551615 ∷ 0 ∷ 18446744073709551615
-    ∷ 0 ∷ 0 ∷ 18446744073709551615 ∷ 18446744073709551615 ∷ []
+-- bit n of the lanes' numbers
+abbrev words : ℕ → List ℕ
+words n =
+    get_or (
+    replicate 4 12297829382473034410
+    ∷ replicate 4 14757395258967641292
+    ∷ replicate 4 17361641481138401520
+    ∷ replicate 4 18374966859414961920
+    ∷ replicate 4 18446462603027742720
+    ∷ replicate 4 18446744069414584320
+    ∷ (0 ∷ 18446744073709551615 ∷ 0 ∷ 18446744073709551615 ∷ [])
+    ∷ (0 ∷ 0 ∷ 18446744073709551615 ∷ 18446744073709551615 ∷ [])
+    ∷ []
+    ) n []
 
 -- computed: all eight bits of all lanes
-bits-checked : some_below (λ k. some_below (λ v. xor (bit_at bits k v) (bit_of v k)) 256) 8 ≡ false
-unfolding some_below bit_at bit_of xor
+bits-checked : some_below (λ k. some_below (λ v. xor (lane_of (words k) v) (bit_of v k)) 256) 8 ≡ false
+unfolding some_below lane_of bit_of xor
 bits-checked = refl
 
 same : (a b : Bool) → xor a b ≡ false → a ≡ b
@@ -39,11 +43,15 @@ same true false e = e
 same false true e = sym e
 same false false e = refl
 
-pub bits_are : (k v : ℕ) → k < 8 → v < 256 → bit_at bits k v ≡ bit_of v k
-bits_are k v hk hv =
-    same _ _
-    (some-none (λ v. xor (bit_at bits k v) (bit_of v k)) 256
-    (some-none (λ k. some_below (λ v. xor (bit_at bits k v) (bit_of v k)) 256) 8 bits-checked k hk) v hv)
+pub bits_are : (k n : ℕ) → k ≡ n → length (words n) ≡ 4 → n < 8 → Lanes (λ v. bit_of v k) (words n)
+bits_are k n e l h = record {
+  long = l;
+  each = λ v g.
+      same _ _
+      (some-none (λ v. xor (lane_of (words n) v) (bit_of v n)) 256
+      (some-none (λ k. some_below (λ v. xor (lane_of (words k) v) (bit_of v k)) 256) 8 bits-checked n h) v g)
+      ∙ ap (bit_of v) (sym e);
+}
 
 -- a lane's number has eight bits
 pub bits-past : (k v : ℕ) → 8 ≤ k → v < 256 → false ≡ bit_of v k

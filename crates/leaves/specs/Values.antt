@@ -1,6 +1,6 @@
 -- Private vocabulary: rows of bits by the values of a field of the lane's number.
 -- Assumes nothing.
-use Rattle.std.specs.Prelude.{◌≡◌, Bool, false, not, ◌&&◌, cond, List, ℕ, ◌+◌, ◌-◌, ◌/◌, ◌%◌, ◌^◌, ◌≤◌, ◌<◌, ltb, leb, eqb}
+use Rattle.std.specs.Prelude.{◌≡◌, Bool, not, ◌&&◌, cond, List, ℕ, ◌+◌, ◌-◌, ◌<◌, ltb, leb, eqb}
 use Rattle.formulas.specs.Parts.{compared_by}
 use Rattle.planes.specs.Word.{compared_in}
 use Rattle.bitsets.specs.Rows.{bit_at}
@@ -19,23 +19,6 @@ parted n z P A a v = cond (ltb a z) (A a v && not (P v)) (cond (leb n a && ltb a
 -- what a comparison says of x and y, where x is its first operand or its second
 unfoldable pub sided : Bool → ℕ → ℕ → ℕ → ℕ → ℕ → Bool
 sided second op x m y n = cond second (compared_by op y n x m) (compared_by op x m y n)
-
--- x is a field of the lane's number
-pub record LaneField (x : Side) : Type 0 where
-  pub lane : x.row ≡ false
-  pub zero : x.number ≡ 0
-
--- x is one with few values, whose rows stand in hot, and y is none
-pub record Few (x y : Side) (hot : List ℕ) : Type 0 where
-  pub field : LaneField x
-  pub bits : x.bits ≤ 4
-  pub plain : (i : ℕ) → (operand_at y i).bits ≡ 0
-  pub rows : Hot (λ v. v / 2 ^ x.shift % 2 ^ x.bits) (2 ^ x.bits) hot
-
--- way 1: the first operand has few values; way 2: the second has
-pub record Way (way : ℕ) (x y : Side) (hot : List ℕ) : Type 0 where
-  pub first : way ≡ 1 → Few x y hot
-  pub second : way ≡ 2 → Few y x hot
 
 -- the first n rows from base on say what a comparison of x and y says
 pub record Filled (op : ℕ) (x y : Side) (base n : ℕ) (t : List ℕ) : Type 0 where

@@ -8,27 +8,28 @@ ghost use Rattle.planes.specs.Word.{compared_in};
 ghost use Rattle.bitsets.specs.Rows.{bit_at, Rows, put_from};
 ghost use Rattle.sides.specs.Leaf.{leaf};
 ghost use Rattle.sides.specs.Side.{operand_at};
-ghost use Rattle.leaves.specs.Values.{Way, Filled};
+ghost use Rattle.leaves.specs.Values.{Filled};
+ghost use Rattle.leaves.specs.Ways.{Laid};
 
 mod values;
 
 use policy::Classes;
 use sides::{Side, first_alike, side_of};
-use values::{compared, prepare};
+use values::{Way, compared, prepare};
 
 // What a comparison of two operands says in row i, where the rows before it are filled in from `base` on: one of them, if it has the same operands.
 fn row_at(
     area: &[u64],
-    hot: &[u64],
-    way: u8,
+    hot: &[u64; 64],
+    way: Way,
     base: usize,
     op: u32,
     x: Side,
     y: Side,
     i: usize,
 ) -> [u64; 4]
-    requires i_bound { (i < 256) × (4 * (base + i) ≤ length area.now) × Filled op x y base i area.now }
-    requires hot_len { (length hot.now ≡ 64) × Way way x y hot.now }
+    requires filled { (i < 256) × (4 * (base + i) ≤ length area.now) × Filled op x y base i area.now }
+    requires laid { Laid way x y hot.now }
     ensures { Lanes (compared_in op (operand_at x i) (operand_at y i)) result }
 {
     let j = first_alike(x, y, i);
@@ -44,7 +45,7 @@ fn fill_rows(area: &mut [u64], base: usize, count: usize, op: u32, x: Side, y: S
     ensures rows { Rows (put_from base count (λ i. compared_in op (operand_at x i) (operand_at y i)) (bit_at area.old)) area.new }
     ensures area_len_unchanged { length area.new ≡ length area.old }
 {
-    let mut hot: [u64; 64] = [0; 64];
+    let mut hot = [0u64; 64];
     let way = prepare(&mut hot, x, y);
     for i in 0..count {
         let r = row_at(area, &hot, way, base, op, x, y, i);

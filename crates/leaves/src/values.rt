@@ -1,57 +1,33 @@
 // Comparisons by the values of a field of the lane's number, or lane by lane. No operator is named here but those on sets.
-ghost use Rattle.std.specs.Prelude.{◌≡◌, true, false, not, ◌&&◌, ◌||◌, ℕ, ◌+◌, ◌*◌, ◌/◌, ◌%◌, ◌^◌, ◌≤◌, ◌<◌, eqb, length};
+ghost use Rattle.std.specs.Prelude.{◌≡◌, true, false, not, ◌&&◌, ◌||◌, ℕ, ◌+◌, ◌*◌, ◌/◌, ◌%◌, ◌^◌, ◌≤◌, ◌<◌, eqb, length, IfSome};
 ghost use Rattle.lanes.specs.Lanes.{bit_of, lane_of, Lanes};
 ghost use Rattle.planes.specs.Word.{number_in, compared_in};
 ghost use Rattle.bitsets.specs.Rows.{bit_at, Rows, put};
 ghost use Rattle.sides.specs.Side.{operand_at};
-ghost use Rattle.leaves.specs.Values.{Hot, LaneField, parted, sided, Way};
+ghost use Rattle.leaves.specs.Values.{Hot, parted, sided};
+ghost use Rattle.leaves.specs.Ways.{Laid};
+ghost use Rattle.sides.specs.declared.Side.TheVariants.{Lane};
 
+use planes::comparison::SetComparison;
 use planes::operand::{Operand, high};
 use planes::wide::compare_all;
-use sides::{Side, operand_at, part_of};
+use sides::{Field, Side, operand_at, part_of};
 
 // Bit k of the lanes' numbers.
 fn bit_row(k: usize) -> [u64; 4]
     ensures { Lanes (λ v. bit_of v k) result }
 {
-    if 8 <= k {
-        return lanes::none();
+    match k {
+        0 => [0xAAAA_AAAA_AAAA_AAAA; 4],
+        1 => [0xCCCC_CCCC_CCCC_CCCC; 4],
+        2 => [0xF0F0_F0F0_F0F0_F0F0; 4],
+        3 => [0xFF00_FF00_FF00_FF00; 4],
+        4 => [0xFFFF_0000_FFFF_0000; 4],
+        5 => [0xFFFF_FFFF_0000_0000; 4],
+        6 => [0, u64::MAX, 0, u64::MAX],
+        7 => [0, 0, u64::MAX, u64::MAX],
+        _ => lanes::none(),
     }
-    let t: [u64; 32] = [
-        0xAAAA_AAAA_AAAA_AAAA,
-        0xAAAA_AAAA_AAAA_AAAA,
-        0xAAAA_AAAA_AAAA_AAAA,
-        0xAAAA_AAAA_AAAA_AAAA,
-        0xCCCC_CCCC_CCCC_CCCC,
-        0xCCCC_CCCC_CCCC_CCCC,
-        0xCCCC_CCCC_CCCC_CCCC,
-        0xCCCC_CCCC_CCCC_CCCC,
-        0xF0F0_F0F0_F0F0_F0F0,
-        0xF0F0_F0F0_F0F0_F0F0,
-        0xF0F0_F0F0_F0F0_F0F0,
-        0xF0F0_F0F0_F0F0_F0F0,
-        0xFF00_FF00_FF00_FF00,
-        0xFF00_FF00_FF00_FF00,
-        0xFF00_FF00_FF00_FF00,
-        0xFF00_FF00_FF00_FF00,
-        0xFFFF_0000_FFFF_0000,
-        0xFFFF_0000_FFFF_0000,
-        0xFFFF_0000_FFFF_0000,
-        0xFFFF_0000_FFFF_0000,
-        0xFFFF_FFFF_0000_0000,
-        0xFFFF_FFFF_0000_0000,
-        0xFFFF_FFFF_0000_0000,
-        0xFFFF_FFFF_0000_0000,
-        0,
-        0xFFFF_FFFF_FFFF_FFFF,
-        0,
-        0xFFFF_FFFF_FFFF_FFFF,
-        0,
-        0,
-        0xFFFF_FFFF_FFFF_FFFF,
-        0xFFFF_FFFF_FFFF_FFFF,
-    ];
-    bitsets::load(&t, k)
 }
 
 // The lanes of row z that are in p become row n + z, the others row z.
@@ -78,55 +54,59 @@ fn part_all(hot: &mut [u64], n: usize, p: [u64; 4])
     }
 }
 
-// Row z becomes the lanes where the field of `bits` bits from bit `shift` on is z.
-fn value_rows(hot: &mut [u64], shift: u8, bits: u8)
-    requires { (bits ≤ 4) × (length hot.old ≡ 64) }
-    ensures hot { Hot (λ v. v / 2 ^ shift % 2 ^ bits) (2 ^ bits) hot.new }
-    ensures hot_len { length hot.new ≡ 64 }
+// Row z becomes the lanes where the field of the lane's number is z.
+fn value_rows(hot: &mut [u64; 64], f: Field)
+    requires { f.bits ≤ 4 }
+    ensures { Hot (λ v. v / 2 ^ f.shift % 2 ^ f.bits) (2 ^ f.bits) hot.new }
 {
     bitsets::store(hot, 0, lanes::all());
-    for k in 0..bits as usize {
-        part_all(hot, 1 << k, bit_row(shift as usize + k));
+    for k in 0..f.bits as usize {
+        part_all(hot, 1 << k, bit_row(f.shift as usize + k));
     }
 }
 
-// Whether x is a field of the lane's number with at most 16 values, and y is no field of it.
-fn few(x: Side, y: Side) -> bool
-    ensures { result ≡ true → LaneField x × (x.bits ≤ 4) × ((i : ℕ) → (operand_at y i).bits ≡ 0) }
+// Whether the operand has bits of the lane's number.
+#[tactic(auto, unfolding(sides::specs::Side::operand_at))]
+fn in_lane(y: Side) -> bool
+    ensures { result ≡ false → (i : ℕ) → (operand_at y i).bits ≡ 0 }
 {
-    if x.row {
-        return false;
+    match y {
+        Side::Lane(f) => f.bits != 0,
+        Side::Row(_) | Side::Constant { .. } => false,
     }
-    if x.bits == 0 {
-        return false;
-    }
-    if 4 < x.bits {
-        return false;
-    }
-    if x.number != 0 {
-        return false;
-    }
-    if y.row {
-        return true;
-    }
-    y.bits == 0
 }
 
-// How the operands are compared: 1 where the first has few values, 2 where the second has, and then their rows stand in `hot`; else 0.
-pub(super) fn prepare(hot: &mut [u64], x: Side, y: Side) -> u8
-    requires { length hot.old ≡ 64 }
-    ensures way { Way result x y hot.new }
-    ensures hot_len { length hot.new ≡ 64 }
+// The field that x is, if it is one of the lane's number with at most 16 values, and y is none.
+fn few(x: Side, y: Side) -> Option<Field>
+    ensures { IfSome result (λ f. (x ≡ Lane f) × (f.bits ≤ 4) × ((i : ℕ) → (operand_at y i).bits ≡ 0)) }
 {
-    if few(x, y) {
-        value_rows(hot, x.shift, x.bits);
-        return 1;
+    match x {
+        Side::Lane(f) if f.bits != 0 && f.bits <= 4 && !in_lane(y) => Some(f),
+        Side::Lane(_) | Side::Row(_) | Side::Constant { .. } => None,
     }
-    if few(y, x) {
-        value_rows(hot, y.shift, y.bits);
-        return 2;
+}
+
+// Which operand is a field of the lane's number with few values, whose rows are laid out, while the other is none.
+#[derive(Clone, Copy)]
+pub(super) enum Way {
+    First(Field),
+    Second(Field),
+    Neither,
+}
+
+// How the operands are compared: where one has few values, its rows stand in `hot`.
+pub(super) fn prepare(hot: &mut [u64; 64], x: Side, y: Side) -> Way
+    ensures { Laid result x y hot.new }
+{
+    if let Some(f) = few(x, y) {
+        value_rows(hot, f);
+        return Way::First(f);
     }
-    0
+    if let Some(f) = few(y, x) {
+        value_rows(hot, f);
+        return Way::Second(f);
+    }
+    Way::Neither
 }
 
 // What a comparison says of a value x of the lanes' field and one number y, whose lists have m and n values. The field is the first operand or the second.
@@ -151,8 +131,8 @@ fn with_row(t: &[u64], a: usize, on: bool, r: [u64; 4]) -> [u64; 4]
 }
 
 // Where a comparison holds of the field x of the lane's number and one number, whose list has n values: by what it says of each of the field's values.
-fn joined(hot: &[u64], x: Side, second: bool, op: u32, y: u8, n: u8) -> [u64; 4]
-    requires { (x.bits ≤ 4) × (length hot.now ≡ 64) × Hot (λ v. v / 2 ^ x.shift % 2 ^ x.bits) (2 ^ x.bits) hot.now }
+fn joined(hot: &[u64; 64], x: Field, second: bool, op: u32, y: u8, n: u8) -> [u64; 4]
+    requires { (x.bits ≤ 4) × Hot (λ v. v / 2 ^ x.shift % 2 ^ x.bits) (2 ^ x.bits) hot.now }
     ensures { Lanes (λ v. sided second op (v / 2 ^ x.shift % 2 ^ x.bits) x.size y n) result }
 {
     let count = 1usize << x.bits;
@@ -215,43 +195,29 @@ fn once(op: u32, x: Operand, y: Operand) -> [u64; 4]
     lanes::none()
 }
 
-// Whether the operator is one on sets, which are compared member by member.
-fn on_sets(op: u32) -> bool
-    ensures { result ≡ true → (8 ≤ op) × (op ≤ 10) }
-{
-    if op < 8 {
-        return false;
-    }
-    op <= 10
-}
-
 // Where a comparison of two operands holds: once where no lane changes them, by members where they are sets, else lane by lane.
 fn otherwise(op: u32, x: Operand, y: Operand) -> [u64; 4]
     ensures { Lanes (compared_in op x y) result }
 {
-    if x.bits == 0 {
-        if y.bits == 0 {
-            return once(op, x, y);
-        }
+    if x.bits == 0 && y.bits == 0 {
+        return once(op, x, y);
     }
-    if on_sets(op) {
-        return compare_all(op, x, y);
+    match SetComparison::of(op) {
+        Some(by) => compare_all(by, x, y),
+        None => lane_by_lane(op, x, y),
     }
-    lane_by_lane(op, x, y)
 }
 
 // What a comparison of two operands says in row i.
-pub(super) fn compared(hot: &[u64], way: u8, op: u32, x: Side, y: Side, i: usize) -> [u64; 4]
-    requires { (i < 256) × (length hot.now ≡ 64) × Way way x y hot.now }
+pub(super) fn compared(hot: &[u64; 64], way: Way, op: u32, x: Side, y: Side, i: usize) -> [u64; 4]
+    requires { (i < 256) × Laid way x y hot.now }
     ensures { Lanes (compared_in op (operand_at x i) (operand_at y i)) result }
 {
     let a = operand_at(x, i);
     let b = operand_at(y, i);
-    if way == 1 {
-        return joined(hot, x, false, op, b.number, b.size);
+    match way {
+        Way::First(f) => joined(hot, f, false, op, b.number, b.size),
+        Way::Second(f) => joined(hot, f, true, op, a.number, a.size),
+        Way::Neither => otherwise(op, a, b),
     }
-    if way == 2 {
-        return joined(hot, y, true, op, a.number, a.size);
-    }
-    otherwise(op, a, b)
 }

@@ -4,10 +4,10 @@ use mathlib.Core.Path.{◌≡◌, refl, sym, ap, ap₂, ◌∙◌}
 use mathlib.Core.Bool.{Bool, true, false, ◌&&◌}
 use mathlib.Core.List.{List, [], ◌∷◌}
 use mathlib.Core.Option.{none}
-use Prim.Native.Nat.{ℕ, suc, ◌+◌, ◌/◌, ◌%◌, ◌^◌, ◌≤◌, ◌<◌}
+use Prim.Native.Nat.{ℕ, suc, ◌+◌, ◌-◌, ◌/◌, ◌%◌, ◌^◌, ◌≤◌, ◌<◌}
 use native.Mathlib.Numerals.{add-one}
 use native.Mathlib.Omega.{arith}
-use borrow.Author.Tests.{ltb-true, lt-ltb, le-ltb, eq-eqb, le-leb}
+use borrow.Author.Tests.{ltb-true, lt-ltb, eq-eqb, le-leb}
 use lib.Dec.{ltb, eqb}
 use lib.ListN.{drop, drop_of_length-le}
 use lib.Pow.{pow_mono}
@@ -19,7 +19,7 @@ use Rattle.policy.specs.Policy.{Attr, no_attr, unlisted, bits_for, codes, width}
 use Rattle.policy.specs.File.{value_format}
 use Rattle.policy.specs.Rules.{attr_at, attrs_of}
 use Rattle.policy.specs.declared.Class.{Class}
-use Rattle.policy.proofs.Laws.{without_lists, attrs-length, attrs-at, attrs-unlisted, codes-unlisted, width-unlisted, value-lt}
+use Rattle.policy.proofs.Laws.{attrs-length, attrs-at, codes-unlisted, width-unlisted, value-lt}
 use Rattle.lists.specs.Lists.{in_lists, listed}
 
 pub within-is : (n x : ℕ) → within 0 n x ≡ ltb x n
@@ -70,6 +70,14 @@ module _ (c : Class) where
     pub in-not : within 0 (codes (attr_at c k)) (v / 2 ^ left) ≡ false → in_lists (drop k (attrs_of c)) v ≡ false
     in-not e = in-next ∙ ap (λ (t : Bool). t && in_lists (drop (k + 1) (attrs_of c)) (v % 2 ^ left)) e
 
+-- the bits that are left for the attributes from a place on, and for those after it
+module _ (c : Class) (k left bits : ℕ) (h : k < c.count) (w : left ≡ width (drop k (attrs_of c))) (b : bits ≡ bits_for (attr_at c k)) where
+  pub left_after : left - bits ≡ width (drop (k + 1) (attrs_of c))
+  left_after = omega (arith, later-width c k h)
+
+  pub left_enough : bits ≤ left
+  left_enough = omega (arith, later-width c k h)
+
 -- list numbers do not matter
 
 pub in-unlisted : (l : List Attr) (v : ℕ) → in_lists (unlisted l) v ≡ in_lists l v
@@ -79,15 +87,9 @@ in-unlisted (a ∷ l) v =
     ap (λ (w : ℕ). ltb (v / 2 ^ w) (codes record { kind = a.kind; size = a.size; list = 0 }) && in_lists (unlisted l) (v % 2 ^ w)) (width-unlisted l)
     ∙ ap₂ ◌&&◌ (ap (ltb (v / 2 ^ width l)) (codes-unlisted a)) (in-unlisted l (v % 2 ^ width l))
 
-pub in-any : (c : Class) (v : ℕ) → in_lists (attrs_of (without_lists c)) v ≡ in_lists (attrs_of c) v
-in-any c v = ap (λ (l : List Attr). in_lists l v) (attrs-unlisted c) ∙ in-unlisted (attrs_of c) v
-
 pub listed-unlisted : (l : List Attr) (v : ℕ) → listed (unlisted l) v ≡ listed l v
 unfolding listed
 listed-unlisted l v = ap (λ (t : Bool). ltb v 256 && t) (in-unlisted l v)
-
-pub listed-any : (c : Class) (v : ℕ) → listed (attrs_of (without_lists c)) v ≡ listed (attrs_of c) v
-listed-any c v = ap (λ (l : List Attr). listed l v) (attrs-unlisted c) ∙ listed-unlisted (attrs_of c) v
 
 -- what is listed
 
@@ -95,10 +97,6 @@ module _ (l : List Attr) (v : ℕ) where
   pub listed_in : v < 256 → listed l v ≡ in_lists l v
   unfolding listed
   listed_in h = ap (λ (t : Bool). t && in_lists l v) (lt-ltb v 256 h)
-
-  pub listed-past : 256 ≤ v → listed l v ≡ false
-  unfolding listed
-  listed-past h = ap (λ (t : Bool). t && in_lists l v) (le-ltb v 256 h)
 
   pub listed-byte : listed l v ≡ true → v < 256
   unfolding listed

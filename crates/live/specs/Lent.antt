@@ -1,12 +1,14 @@
 -- The live state [01:Steps, "The live state is two lent slices of 64-bit cells"], and what a call leaves: the number that is given instead, if one is,
 -- and the state after it.
 -- Assumes nothing.
-use Rattle.std.specs.Prelude.{Bool, true, false, ◌&&◌, List, [], ◌∷◌, ℕ, ltb, leb, length}
+use Rattle.std.specs.Prelude.{Bool, true, false, ◌&&◌, List, [], ◌∷◌, ℕ, ltb, leb, length, Result, Ok, Err}
 use Rattle.std.proofs.Math.Option.{Option, none, some}
 use Rattle.runs.specs.State.{Session, closed, opened}
 use Rattle.cells.specs.Cell.{place_of}
 use Rattle.live.specs.declared.Next.{Next}
-use Rattle.live.specs.declared.Outcome.{Outcome}
+use Rattle.live.specs.declared.LiveState.{LiveState}
+use Rattle.refusal.specs.declared.Refusal.{Refusal}
+use Rattle.refusal.specs.Number.{number_of}
 
 -- the cells of sessions and of items, and the next numbers
 pub record Lent : Type 0 where
@@ -15,9 +17,9 @@ pub record Lent : Type 0 where
   pub next : Next
 
 -- [01:How each place should look, "Where an answer is an enum"]: the number that an outcome gives; none where the call is carried out
-abbrev pub refusal_of : Outcome → Option ℕ
-refusal_of Outcome.Done = none
-refusal_of (Outcome.Refused n) = some n
+abbrev pub refusal_of : {A : Type 0} → Result A Refusal → Option ℕ
+refusal_of (Ok _) = none
+refusal_of (Err refusal) = some (number_of refusal)
 
 -- the same for hosts, as one number: 0 for none
 unfoldable pub host_number : Option ℕ → ℕ
@@ -33,8 +35,12 @@ pub record After : Type 0 where
 abbrev pub lent_as : List ℕ → List ℕ → Next → Lent
 lent_as sessions items next = record { sessions = sessions; items = items; next = next }
 
+-- the live state that is read
+abbrev pub lent_of : LiveState → Lent
+lent_of s = lent_as s.sessions.now s.items.now s.next
+
 -- an outcome, the next numbers and what two slices hold, as what a call leaves
-abbrev pub leaves : Outcome → Next → List ℕ → List ℕ → After
+abbrev pub leaves : {A : Type 0} → Result A Refusal → Next → List ℕ → List ℕ → After
 leaves outcome next sessions items = record { refusal = refusal_of outcome; lent = lent_as sessions items next }
 
 -- a number is given, and nothing changes

@@ -1,8 +1,10 @@
-// The live state's next numbers, and what a call on it comes to. The state itself, and what a call leaves, are in specs/Lent.
+// The live state's next numbers, and the number of an outcome. The state itself, and what a call leaves, are in specs/Lent.
 #![tactic(auto)]
 
 ghost use Rattle.std.specs.Prelude.{◌≡◌};
 ghost use Rattle.live.specs.Lent.{refusal_of, host_number};
+
+use refusal::Refusal;
 
 // The next session number and the next item number.
 #[derive(Clone, Copy)]
@@ -11,36 +13,21 @@ pub struct Next {
     pub item: u64,
 }
 
-// Carried out, or the number that is given instead.
+// A live state that is only read: the cells of sessions and of items, and the next numbers.
 #[derive(Clone, Copy)]
-pub enum Outcome {
-    Done,
-    Refused(u8),
-}
-
-// What a step came to, and the next numbers after it.
-#[derive(Clone, Copy)]
-pub struct Stepped {
-    pub outcome: Outcome,
+pub struct LiveState<'a> {
+    pub sessions: &'a [u64],
+    pub items: &'a [u64],
     pub next: Next,
 }
 
-// A number is given, and the next numbers stay.
-pub fn refused(next: Next, number: u8) -> Stepped
-    ensures { result ≡ record { outcome = Outcome.Refused number; next = next } }
-{
-    Stepped {
-        outcome: Outcome::Refused(number),
-        next,
-    }
-}
-
 // The paper's number of an outcome, 0 for carried out.
-pub fn number_of(outcome: Outcome) -> u32
+#[tactic(auto, unfolding(crate::specs::Lent::host_number))]
+pub fn number_of<T: Copy>(outcome: Result<T, Refusal>) -> u32
     ensures { result ≡ host_number (refusal_of outcome) }
 {
     match outcome {
-        Outcome::Done => 0,
-        Outcome::Refused(n) => n as u32,
+        Ok(_) => 0,
+        Err(refusal) => u32::from(u8::from(refusal)),
     }
 }

@@ -1,27 +1,22 @@
 // What the programs print: one line for the verdict, then a line for each row of a leak.
 #![tactic(auto)]
 
-ghost use Rattle.std.specs.Prelude.{◌≡◌, [], ◌∷◌, ◌++◌, ◌+◌, ◌≤◌, min, length, get_or};
-ghost use Rattle.analyser.specs.Told.{told_of};
+ghost use Rattle.std.specs.Prelude.{◌≡◌, [], ◌∷◌, ◌++◌, ◌+◌, ◌≤◌, min, length};
+ghost use Rattle.analyser.specs.Told.{told_of, rows_of};
 ghost use Rattle.output.specs.Lines.{numeral, safe_word, leak_word, refused_word, line, verdict_line, row_line, line_at};
 ghost use Rattle.output.specs.Put.{over, fitting, put_at};
 
 use analyser::{Answer, Verdict};
+use bits::get_or;
 use cells::Row;
 use itoa::Buffer;
+use refusal::Refusal;
 use std::io;
 use std::io::Write;
 
 const SPACE: u8 = 32;
 
 const NEWLINE: u8 = 10;
-
-// The lesser of two numbers.
-fn least(a: usize, b: usize) -> usize
-    ensures { result ≡ min a b }
-{
-    if a < b { a } else { b }
-}
 
 // Puts the bytes of a word into `out` from place `at` on, as many as fit, and returns the next place.
 fn put_bytes(word: &[u8], out: &mut [u8], at: usize) -> usize
@@ -30,12 +25,8 @@ fn put_bytes(word: &[u8], out: &mut [u8], at: usize) -> usize
     ensures out_after { out.new ≡ put_at out.old at word.now }
     ensures upper_bound { result ≤ length out.new }
 {
-    let n = least(word.len(), out.len() - at);
-    let mut i = 0;
-    while i < n {
-        out[at + i] = word[i];
-        i += 1;
-    }
+    let n = word.len().min(out.len() - at);
+    out[at..at + n].copy_from_slice(&word[..n]);
     at + n
 }
 
@@ -94,51 +85,58 @@ fn row_line(x: u64, out: &mut [u8]) -> usize
     put_number(row.value, NEWLINE, out, c)
 }
 
-// The line of the verdict.
-fn verdict_line(a: Answer, out: &mut [u8]) -> usize
-    ensures value { result ≡ min (length (verdict_line (told_of a.verdict a.pairs a.values) a.rows)) (length out.old) }
-    ensures out_after { out.new ≡ over (verdict_line (told_of a.verdict a.pairs a.values) a.rows) out.old }
+// The line of the verdict, or of the refusal.
+#[tactic(auto, unfolding(analyser::specs::Told::told_of, analyser::specs::Told::value_of, analyser::specs::Told::refused, crate::specs::Lines::verdict_line))]
+fn verdict_line(answered: Result<Answer, Refusal>, out: &mut [u8]) -> usize
+    ensures value { result ≡ min (length (verdict_line (told_of answered) (rows_of answered))) (length out.old) }
+    ensures out_after { out.new ≡ over (verdict_line (told_of answered) (rows_of answered)) out.old }
 {
-    let verdict = a.verdict;
-    match verdict {
-        Verdict::Refused(n) => refused_line(n as u64, out),
-        Verdict::Safe => safe_line(a.pairs as u64, a.values as u64, out),
-        Verdict::Leak => leak_line(a.rows as u64, a.pairs as u64, a.values as u64, out),
+    match answered {
+        Err(refusal) => refused_line(u64::from(u8::from(refusal)), out),
+        Ok(answer) => match answer.verdict {
+            Verdict::Safe => safe_line(answer.pairs as u64, answer.values as u64, out),
+            Verdict::Leak => {
+                let rows = answer.rows as u64;
+                leak_line(rows, answer.pairs as u64, answer.values as u64, out)
+            }
+        },
     }
-}
-
-// Row i, or 0 where there is none.
-fn row_at(rows: &[u64], i: usize) -> u64
-    ensures { result ≡ get_or rows.now i 0 }
-{
-    if i < rows.len() { rows[i] } else { 0 }
 }
 
 // Puts line i of an answer at the front of `out`, as many bytes as fit, and returns how many. Line 0 is the verdict's, line i + 1 that of row i. The
 // rest of `out` is as it was.
-pub fn line_of(a: Answer, rows: &[u64], i: usize, out: &mut [u8]) -> usize
-    ensures value { result ≡ min (length (line_at (told_of a.verdict a.pairs a.values) a.rows rows.now i)) (length out.old) }
-    ensures out_after { out.new ≡ over (line_at (told_of a.verdict a.pairs a.values) a.rows rows.now i) out.old }
+pub fn line_of(answered: Result<Answer, Refusal>, rows: &[u64], i: usize, out: &mut [u8]) -> usize
+    ensures value { result ≡ min (length (line_at (told_of answered) (rows_of answered) rows.now i)) (length out.old) }
+    ensures out_after { out.new ≡ over (line_at (told_of answered) (rows_of answered) rows.now i) out.old }
 {
     if i == 0 {
-        return verdict_line(a, out);
+        return verdict_line(answered, out);
     }
-    row_line(row_at(rows, i - 1), out)
+    row_line(get_or(rows, i - 1, 0), out)
 }
 
 // Prints line i.
-fn print_line<W: Write>(writer: &mut W, a: Answer, rows: &[u64], i: usize) -> io::Result<()> {
+fn print_line<W: Write>(
+    writer: &mut W,
+    answered: Result<Answer, Refusal>,
+    rows: &[u64],
+    i: usize,
+) -> io::Result<()> {
     let mut out: [u8; 32] = [0; 32];
-    let n = line_of(a, rows, i, &mut out);
+    let n = line_of(answered, rows, i, &mut out);
     writer.write_all(&out[..n])
 }
 
 // Prints the answer, and the leak's rows, which stand at the front of `rows`. The first write that fails ends it.
-pub fn print_answer<W: Write>(writer: &mut W, a: Answer, rows: &[u64]) -> io::Result<()> {
-    print_line(writer, a, rows, 0)?;
-    let n = a.rows;
+pub fn print_answer<W: Write>(
+    writer: &mut W,
+    answered: Result<Answer, Refusal>,
+    rows: &[u64],
+) -> io::Result<()> {
+    print_line(writer, answered, rows, 0)?;
+    let n = answered.map_or(0, |answer| answer.rows);
     for i in 0..n {
-        print_line(writer, a, rows, i + 1)?;
+        print_line(writer, answered, rows, i + 1)?;
     }
     Ok(())
 }

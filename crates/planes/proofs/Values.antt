@@ -18,22 +18,22 @@ use Rattle.lists.proofs.Laws.{within-is, in-next, in-none, listed_in}
 use Rattle.lists.proofs.Narrow.{in-narrow}
 use Rattle.planes.specs.Word.{number_in}
 
-module _ (kind size own x : ℕ) where
+module _ (a : Attr) (own x : ℕ) where
   -- every code of a set is one
-  pub code-set : (kind ≡ 0 → ⊥) → own ≡ bits_for record { kind = kind; size = size; list = 0 } → ltb (x % 2 ^ own) (codes record { kind = kind; size = size; list = 0 }) ≡ true
+  pub code-set : (a.kind ≡ 0 → ⊥) → own ≡ bits_for a → ltb (x % 2 ^ own) (codes a) ≡ true
   unfolding bits_for codes
   code-set n e =
-      let d : own ≡ size = e ∙ simp (ne_eqb kind 0 n) in
-      simp (ne_eqb kind 0 n) (lt-ltb (x % 2 ^ own) (2 ^ size) (subst (λ (w : ℕ). x % 2 ^ own < 2 ^ w) d (mod-lt x (pow_pos own))))
+      let d : own ≡ a.size = e ∙ simp (ne_eqb a.kind 0 n) in
+      simp (ne_eqb a.kind 0 n) (lt-ltb (x % 2 ^ own) (2 ^ a.size) (subst (λ (w : ℕ). x % 2 ^ own < 2 ^ w) d (mod-lt x (pow_pos own))))
 
-  -- a number below size is a code of an atomic value
-  pub code-atomic : kind ≡ 0 → ltb (x % 2 ^ own) (codes record { kind = kind; size = size; list = 0 }) ≡ ltb (x % 2 ^ own) size
+  -- a number below its size is a code of an atomic value
+  pub code-atomic : a.kind ≡ 0 → ltb (x % 2 ^ own) (codes a) ≡ ltb (x % 2 ^ own) a.size
   unfolding codes
-  code-atomic e = simp (eq-eqb kind 0 e)
+  code-atomic e = simp (eq-eqb a.kind 0 e)
 
-  -- every code of so many bits is one, where size is their number
-  pub code-full : kind ≡ 0 → size ≡ 2 ^ own → ltb (x % 2 ^ own) (codes record { kind = kind; size = size; list = 0 }) ≡ true
-  code-full e d = code-atomic e ∙ lt-ltb (x % 2 ^ own) size (subst (λ (n : ℕ). x % 2 ^ own < n) (sym d) (mod-lt x (pow_pos own)))
+  -- every code of so many bits is one, where the size is their number
+  pub code-full : a.kind ≡ 0 → a.size ≡ 2 ^ own → ltb (x % 2 ^ own) (codes a) ≡ true
+  code-full e d = code-atomic e ∙ lt-ltb (x % 2 ^ own) a.size (subst (λ (n : ℕ). x % 2 ^ own < n) (sym d) (mod-lt x (pow_pos own)))
 
 -- a byte has nothing above its 8 bits
 pub field_cut : (v s b : ℕ) → v < 256 → v / 2 ^ min s 8 % 2 ^ b ≡ v / 2 ^ s % 2 ^ b

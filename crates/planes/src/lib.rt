@@ -7,7 +7,7 @@ ghost use Rattle.policy.specs.Nodes.{of_holder};
 ghost use Rattle.policy.specs.Rules.{attrs_of, lists_of};
 ghost use Rattle.lists.specs.Lists.{listed as listed_in};
 
-mod comparison;
+pub mod comparison;
 mod listed;
 pub mod operand;
 mod set;
@@ -32,14 +32,13 @@ pub fn values_of(class: Class) -> [u64; 4]
 }
 
 // The attributes of the holder at the place `at`.
+#[tactic(auto, unfolding(policy::specs::Nodes::of_holder, policy::specs::Rules::lists_of))]
 pub fn class_of(classes: Classes, at: u8) -> Class
     ensures { attrs_of result ≡ of_holder (lists_of classes) at }
 {
-    if at == 0 {
-        return classes.user;
+    match at {
+        0 => classes.user,
+        1 | 2 => classes.session,
+        _ => classes.item,
     }
-    if at <= 2 {
-        return classes.session;
-    }
-    classes.item
 }

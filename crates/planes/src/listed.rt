@@ -1,29 +1,27 @@
 // Which numbers of 64 lanes are values of a class.
-ghost use Rattle.std.specs.Prelude.{◌≡◌, ◌/◌, ◌%◌, ◌^◌, ◌<◌, ltb, eqb, length};
+ghost use Rattle.std.specs.Prelude.{◌≡◌, ◌/◌, ◌%◌, ◌^◌, ◌<◌, ltb, eqb};
 ghost use Rattle.policy.specs.Policy.{bits_for, codes, width};
-ghost use Rattle.policy.specs.Rules.{attrs_of};
+ghost use Rattle.policy.specs.Rules.{as_attr, attrs_of};
 ghost use Rattle.lists.specs.Lists.{listed};
 ghost use Rattle.planes.specs.Word.{Word, Told};
 
 use super::operand::{Operand, order};
-use super::word::{at, planes_of};
+use super::word::planes_of;
+use bits::get_or;
 use formulas::table::byte_of;
-use policy::Class;
-use policy::shape::{bits_for, byte_at};
+use policy::{Attribute, Class};
 
-// Where the bits of an attribute's value, which stand left of so many others, are a code of it. The number of its list makes no difference: 0
-// stands for any.
-fn coded(planes: &[u64], kind: u8, size: u8, right: usize, own: u8) -> u64
-    requires planes_len { length planes.now ≡ 8 }
-    requires own_value { own ≡ bits_for record { kind = kind; size = size; list = 0 } }
-    ensures { Told planes.now (λ v. ltb (v / 2 ^ right % 2 ^ own) (codes record { kind = kind; size = size; list = 0 })) result }
+// Where the bits of an attribute's value, which stand left of so many others, are a code of it.
+fn coded(planes: &[u64; 8], attribute: Attribute, right: usize, own: u8) -> u64
+    requires { own ≡ bits_for (as_attr attribute) }
+    ensures { Told planes.now (λ v. ltb (v / 2 ^ right % 2 ^ own) (codes (as_attr attribute))) result }
 {
-    if kind != 0 {
-        return 0xFFFF_FFFF_FFFF_FFFF;
+    if attribute.kind != 0 {
+        return u64::MAX;
     }
     if own < 8 {
-        if size == 1u8 << own {
-            return 0xFFFF_FFFF_FFFF_FFFF;
+        if attribute.size == 1u8 << own {
+            return u64::MAX;
         }
     }
     let field = Operand {
@@ -32,26 +30,16 @@ fn coded(planes: &[u64], kind: u8, size: u8, right: usize, own: u8) -> u64
         number: 0,
         size: 0,
     };
-    let end = Operand {
-        shift: 0,
-        bits: 0,
-        number: size,
-        size: 0,
-    };
-    let o = order(planes, field, end);
-    o.below
+    order(planes, field, Operand::constant(attribute.size, 0)).below
 }
 
 // Where the number has no bit from bit n on.
-fn narrow(planes: &[u64], n: usize) -> u64
-    requires { length planes.now ≡ 8 }
+fn narrow(planes: &[u64; 8], n: usize) -> u64
     ensures { Told planes.now (λ v. eqb (v / 2 ^ n) 0) result }
 {
-    let mut r = 0xFFFF_FFFF_FFFF_FFFF;
-    let mut k = 8;
-    while n < k {
-        k -= 1;
-        r = r & (at(planes, k) ^ 0xFFFF_FFFF_FFFF_FFFF);
+    let mut r = u64::MAX;
+    for k in (n..8).rev() {
+        r &= !get_or(planes, k, 0);
     }
     r
 }
@@ -62,17 +50,12 @@ fn listed_word(class: Class, w: usize) -> u64
     ensures { Word (listed (attrs_of class)) w result }
 {
     let planes = planes_of(w);
-    let kinds = class.kinds;
-    let sizes = class.sizes;
-    let mut r: u64 = 0xFFFF_FFFF_FFFF_FFFF;
+    let mut r = u64::MAX;
     let mut right: usize = 0;
-    let mut k = class.count as usize;
-    while 0 < k {
-        k -= 1;
-        let kind = byte_at(&kinds, k);
-        let size = byte_at(&sizes, k);
-        let own = bits_for(kind, size);
-        r = coded(&planes, kind, size, right, own) & r;
+    for k in (0..class.count as usize).rev() {
+        let attribute = class.attribute(k);
+        let own = attribute.bits();
+        r &= coded(&planes, attribute, right, own);
         right += own as usize;
     }
     narrow(&planes, right) & r

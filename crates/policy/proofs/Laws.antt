@@ -20,11 +20,13 @@ use Rattle.bits.proofs.Laws.{pow_more}
 use Rattle.bits.proofs.Packed.{tab-ext, tab-more, tab-zero, length-tab, get_or-tab}
 use Rattle.format.specs.Format.{Format, field, within, pair, via}
 use Rattle.format.proofs.Law.{judged-field, judged-pair}
-use Rattle.policy.specs.Policy.{Attr, unlisted, fewest_from, fewest_bits, bits_for, codes, width}
+use Rattle.policy.specs.Policy.{Attr, Session, unlisted, fewest_from, fewest_bits, bits_for, codes, width}
 use Rattle.policy.specs.File.{value_format, sizes_after, size_fits}
-use Rattle.policy.specs.Rules.{attr_at, attrs_of, values_of, sessions_of, nodes_of, formulas_of, no_rules, rules_beside}
+use Rattle.policy.specs.Rules.{as_attr, no_attribute, attr_at, attrs_of, values_of, as_session, no_session, session_at, sessions_of, nodes_of, formulas_of, no_rules, rules_beside}
+use Rattle.policy.specs.declared.Attribute.{Attribute}
 use Rattle.policy.specs.declared.Class.{Class}
 use Rattle.policy.specs.declared.Values.{Values}
+use Rattle.policy.specs.declared.Session.{Session as StartingSession}
 use Rattle.policy.specs.declared.Sessions.{Sessions}
 use Rattle.policy.specs.declared.Rules.{Rules}
 
@@ -34,45 +36,24 @@ module _ {A : Type 0} where
   tab-grows f g i x same e =
       tab-more f i ∙ ap (λ (m : List A). m ++ f i ∷ []) (tab-ext f g 0 i (λ k l. same k (omega arith))) ∙ ap (λ (y : A). tab g 0 i ++ y ∷ []) e
 
-  pub tab-set : (g : ℕ → A) (l : List ℕ) (i x : ℕ) → i < length l → tab (λ k. g (get_or (set l i x) k 0)) 0 (i + 1) ≡ tab (λ k. g (get_or l k 0)) 0 i ++ g x ∷ []
-  tab-set g l i x h = tab-grows _ _ i (g x) (λ k m. ap g (get_or-set_other l i k x 0 (λ e. omega arith))) (ap g (get_or-set_same l i x 0 h))
-
-  -- two arrays side by side
-  tab-sets : (g : ℕ → ℕ → A) (l m : List ℕ) (i x y : ℕ) → i < length l → i < length m →
-      tab (λ k. g (get_or (set l i x) k 0) (get_or (set m i y) k 0)) 0 (i + 1) ≡ tab (λ k. g (get_or l k 0) (get_or m k 0)) 0 i ++ g x y ∷ []
-  tab-sets g l m i x y h j =
-      tab-grows _ _ i (g x y)
-      (λ k n.
-      ap (λ (z : ℕ). g z (get_or (set m i y) k 0)) (get_or-set_other l i k x 0 (λ e. omega arith))
-      ∙ ap (λ (z : ℕ). g (get_or l k 0) z) (get_or-set_other m i k y 0 (λ e. omega arith)))
-      (ap (λ (z : ℕ). g z (get_or (set m i y) i 0)) (get_or-set_same l i x 0 h) ∙ ap (λ (z : ℕ). g x z) (get_or-set_same m i y 0 j))
+  pub tab-set : {B : Type 0} (d : B) (g : B → A) (l : List B) (i : ℕ) (x : B) → i < length l →
+      tab (λ k. g (get_or (set l i x) k d)) 0 (i + 1) ≡ tab (λ k. g (get_or l k d)) 0 i ++ g x ∷ []
+  tab-set d g l i x h = tab-grows _ _ i (g x) (λ k m. ap g (get_or-set_other l i k x d (λ e. omega arith))) (ap g (get_or-set_same l i x d h))
 
 -- attributes of a class
 
 -- the first i attributes of a class
 abbrev pub cut : Class → ℕ → Class
-cut c i = record { count = i; kinds = c.kinds; sizes = c.sizes; lists = c.lists }
-
--- a class with no list numbers
-abbrev pub without_lists : Class → Class
-without_lists c = record { count = c.count; kinds = c.kinds; sizes = c.sizes; lists = [] }
+cut c i = record { count = i; attributes = c.attributes }
 
 pub attrs-none : (c : Class) → c.count ≡ 0 → attrs_of c ≡ []
 unfolding attrs_of
 attrs-none c z = ap (λ (n : ℕ). tab (attr_at c) 0 n) z ∙ tab-zero _ 0
 
-pub attrs-more : (c : Class) (i k z n : ℕ) → i < length c.kinds → i < length c.sizes → i < length c.lists →
-    attrs_of record { count = i + 1; kinds = set c.kinds i k; sizes = set c.sizes i z; lists = set c.lists i n }
-    ≡ attrs_of (cut c i) ++ record { kind = k; size = z; list = n } ∷ []
+pub attrs-more : (c : Class) (i : ℕ) (a : Attribute) → i < length c.attributes →
+    attrs_of record { count = i + 1; attributes = set c.attributes i a } ≡ attrs_of (cut c i) ++ as_attr a ∷ []
 unfolding attrs_of attr_at
-attrs-more c i k z n hk hz hn =
-    tab-grows _ _ i record { kind = k; size = z; list = n }
-    (λ j m.
-    let ek = get_or-set_other c.kinds i j k 0 (λ e. omega arith) in
-    let ez = get_or-set_other c.sizes i j z 0 (λ e. omega arith) in
-    let en = get_or-set_other c.lists i j n 0 (λ e. omega arith) in
-    cc)
-    (let ek = get_or-set_same c.kinds i k 0 hk in let ez = get_or-set_same c.sizes i z 0 hz in let en = get_or-set_same c.lists i n 0 hn in cc)
+attrs-more c i a = tab-set no_attribute as_attr c.attributes i a
 
 pub attrs-next : (c : Class) (i : ℕ) → attrs_of (cut c (i + 1)) ≡ attrs_of (cut c i) ++ attr_at c i ∷ []
 unfolding attrs_of attr_at
@@ -95,7 +76,7 @@ values-none values = tab-zero _ 0
 pub values-more : (values : List ℕ) (i x : ℕ) → i < length values →
     values_of record { count = i + 1; values = set values i x } ≡ values_of record { count = i; values = values } ++ x ∷ []
 unfolding values_of
-values-more values i x = tab-set (λ y. y) values i x
+values-more values i x = tab-set 0 (λ y. y) values i x
 
 pub values-next : (v : Values) (i : ℕ) →
     values_of record { count = i + 1; values = v.values } ≡ values_of record { count = i; values = v.values } ++ get_or v.values i 0 ∷ []
@@ -108,21 +89,23 @@ values_length v = length-tab _ 0 v.count
 
 -- starting sessions
 
-pub sessions-none : (users values : List ℕ) → sessions_of record { count = 0; users = users; values = values } ≡ []
+pub sessions-none : (l : List StartingSession) → sessions_of record { count = 0; sessions = l } ≡ []
 unfolding sessions_of
-sessions-none users values = tab-zero _ 0
+sessions-none l = tab-zero _ 0
 
-pub sessions-more : (users values : List ℕ) (i u v : ℕ) → i < length users → i < length values →
-    sessions_of record { count = i + 1; users = set users i u; values = set values i v }
-    ≡ sessions_of record { count = i; users = users; values = values } ++ record { user = u; value = v } ∷ []
-unfolding sessions_of
-sessions-more users values i u v = tab-sets (λ u v. record { user = u; value = v }) users values i u v
+pub sessions-more : (l : List StartingSession) (i : ℕ) (s : StartingSession) → i < length l →
+    sessions_of record { count = i + 1; sessions = set l i s } ≡ sessions_of record { count = i; sessions = l } ++ as_session s ∷ []
+unfolding sessions_of session_at
+sessions-more l i s = tab-set no_session as_session l i s
 
 pub sessions-next : (t : Sessions) (i : ℕ) →
-    sessions_of record { count = i + 1; users = t.users; values = t.values }
-    ≡ sessions_of record { count = i; users = t.users; values = t.values } ++ record { user = get_or t.users i 0; value = get_or t.values i 0 } ∷ []
-unfolding sessions_of
+    sessions_of record { count = i + 1; sessions = t.sessions } ≡ sessions_of record { count = i; sessions = t.sessions } ++ session_at t i ∷ []
+unfolding sessions_of session_at
 sessions-next t i = tab-more _ i
+
+pub sessions-at : (t : Sessions) (k : ℕ) (d : Session) → k < t.count → get_or (sessions_of t) k d ≡ session_at t k
+unfolding sessions_of
+sessions-at t k d h = get_or-tab (session_at t) 0 t.count k d h ∙ ap (session_at t) (omega arith)
 
 pub sessions-length : (t : Sessions) → length (sessions_of t) ≡ t.count
 unfolding sessions_of
@@ -243,15 +226,6 @@ width-more (b ∷ l) a = omega (arith, width-more l a)
 
 -- list numbers do not matter for values
 
-unlisted-tab : (f : ℕ → Attr) (i n : ℕ) → unlisted (tab f i n) ≡ tab (λ k. record { kind = (f k).kind; size = (f k).size; list = 0 }) i n
-unfolding unlisted tab
-unlisted-tab f i zero = refl
-unlisted-tab f i (suc n) = ap (λ (l : List Attr). record { kind = (f i).kind; size = (f i).size; list = 0 } ∷ l) (unlisted-tab f (suc i) n)
-
-pub attrs-unlisted : (c : Class) → attrs_of (without_lists c) ≡ unlisted (attrs_of c)
-unfolding attrs_of attr_at
-attrs-unlisted c = sym (unlisted-tab (attr_at c) 0 c.count)
-
 pub bits-unlisted : (a : Attr) → bits_for record { kind = a.kind; size = a.size; list = 0 } ≡ bits_for a
 unfolding bits_for
 bits-unlisted a = refl
@@ -265,9 +239,6 @@ unfolding width unlisted
 width-unlisted [] = refl
 width-unlisted (a ∷ l) = omega (arith, bits-unlisted a, width-unlisted l)
 
-pub width-any : (c : Class) → width (attrs_of (without_lists c)) ≡ width (attrs_of c)
-width-any c = ap width (attrs-unlisted c) ∙ width-unlisted (attrs_of c)
-
 -- the format of an attribute's value and of those after it
 part : ℕ → ℕ → ℕ → Format ℕ → Format ℕ
 part w n b f = via (λ v. (v / 2 ^ b, v % 2 ^ b)) (λ p. p.0 * 2 ^ b + p.1) (pair (field w (within 0 n) 6) λ _. f)
@@ -280,9 +251,6 @@ value-unlisted (a ∷ l) =
     ∙ ap (λ (n : ℕ). part (bits_for a) n (width (unlisted l)) (value_format (unlisted l))) (codes-unlisted a)
     ∙ ap (λ (b : ℕ). part (bits_for a) (codes a) b (value_format (unlisted l))) (width-unlisted l)
     ∙ ap (part (bits_for a) (codes a) (width l)) (value-unlisted l)
-
-pub value-any : (c : Class) → value_format (attrs_of (without_lists c)) ≡ value_format (attrs_of c)
-value-any c = ap value_format (attrs-unlisted c) ∙ value-unlisted (attrs_of c)
 
 -- the sizes of lists
 

@@ -1,5 +1,6 @@
 pub mod Laws  -- rules in memory, widths, values
 pub mod NodeLaws  -- which nodes a formula may have
+pub mod OperandLaws  -- what the operands of a node name
 pub mod PolicyLaw  -- the rule file's format is lawful
 pub mod Listed  -- list numbers in judged rules
 pub mod Stands  -- where a file's attributes and list numbers stand

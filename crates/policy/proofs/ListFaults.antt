@@ -8,18 +8,20 @@ use mathlib.Core.Option.{some}
 use Prim.Native.Nat.{ℕ, suc, ◌≤◌, ◌<◌}
 use native.Mathlib.Decide.{ℕ_discrete, dec_lt, dec_le}
 use native.Mathlib.Omega.{arith}
-use borrow.Author.Tests.{eqb-false, ne_eqb, lt-leb}
+use borrow.Author.Tests.{eqb-false, ne_eqb}
 use lib.Dec.{eqb}
 use lib.ListN.{length, get_or, set, get_or-replicate, get_or-append, get_or-eq_default}
 use lib.Seq.{set_out, get_or-set_same, get_or-set_other, get_or-append_seam}
 use Rattle.format.proofs.Gives.{Gives}
+use Rattle.std.proofs.lemmas.Bool.Decides.{nat_tests}
+use Rattle.std.proofs.lemmas.Bool.{and_parts, or_parts, both_ways}
 use Rattle.policy.specs.Policy.{Attr, no_attr, Lists, Policy}
 use Rattle.policy.specs.Nodes.{op_of, first_of, second_of, holder_of, may_use, named, names, atomic, node_ok, same_list, lists_agree}
 use Rattle.policy.specs.File.{no_sizes, sizes_after, size_fits, policy_format}
 use Rattle.policy.specs.Rules.{policy_of}
 use Rattle.policy.specs.declared.Rules.{Rules}
 use Rattle.policy.proofs.Listed.{attributes, Unlisted, unlisted-agree}
-use Rattle.policy.proofs.NodeLaws.{and_both, or-neither, true-false, cond_same, node-compares, node-member, node-sets, agree-others, agree-compared}
+use Rattle.policy.proofs.NodeLaws.{node-compares, node-member, node-sets, agree-others, agree-compared}
 use Rattle.policy.proofs.Numbers.{Misfits, gives-policy}
 
 -- list n has the size of an attribute of l
@@ -77,8 +79,8 @@ list-fault m a r f = (length m, ⊎_elim (λ h. inl (omega (arith, ap (λ (x : A
         → (j : ℕ) × ((j < length m) × (0 < (get_or l (length m) no_attr).list) × ((get_or l j no_attr).list ≡ (get_or l (length m) no_attr).list)
         × ((get_or l j no_attr).size ≡ (get_or l (length m) no_attr).size → ⊥))
     go h w =
-        let (h₀, h₁) = or-neither (eqb a.list 0 || eqb z 0) (eqb z a.size) h in
-        let (g₀, g₁) = or-neither (eqb a.list 0) (eqb z 0) h₀ in
+        let (h₀, h₁) = or_parts (eqb a.list 0 || eqb z 0) (eqb z a.size) h in
+        let (g₀, g₁) = or_parts (eqb a.list 0) (eqb z 0) h₀ in
         ⊎_elim (λ d. absurd (eqb-false z 0 g₁ (d ∙ no_size a.list)))
         (λ v.
         let u : get_or l v.at no_attr ≡ get_or m v.at no_attr = get_or-append m (a ∷ r) no_attr v.at v.inside in
@@ -97,26 +99,12 @@ list-fault m a r f = (length m, ⊎_elim (λ h. inl (omega (arith, ap (λ (x : A
 -- a holder that a formula may use is no constant, and known
 uses-known : (f h : ℕ) → may_use f h ≡ true → h ≤ 4
 unfolding may_use
-uses-known f h e = go (dec_le h 4)
-  where
-    go : Dec (h ≤ 4) → h ≤ 4
-    go (yes l) = l
-    go (no l) =
-        true-false e
-        (simp (
-          ne_eqb h 0 (λ d. omega arith),
-          ne_eqb h 1 (λ d. omega arith),
-          ne_eqb h 2 (λ d. omega arith),
-          ne_eqb h 3 (λ d. omega arith),
-          ne_eqb h 4 (λ d. omega arith),
-          lt-leb h 2 (omega arith),
-          cond_same,
-        ))
+uses-known f h e = grind (arith, nat_tests)
 
 module _ (c : Lists) (f : ℕ) where
   names-known : (kind x : ℕ) → names c f kind x ≡ true → holder_of x ≤ 4
   unfolding names
-  names-known kind x e = uses-known f (holder_of x) (and_both _ _ (and_both _ _ e).0).0
+  names-known kind x e = uses-known f (holder_of x) (and_parts _ _ (and_parts _ _ e).0).0
 
   atomic-known : (x : ℕ) → (holder_of x ≡ 5 → ⊥) → atomic c f x ≡ true → holder_of x ≤ 4
   unfolding atomic
@@ -128,9 +116,9 @@ module _ (c : Lists) (f : ℕ) where
   operands-known i x e g h m n = go (dec_le (op_of x) 7) (dec_le (op_of x) 8)
     where
       go : Dec (op_of x ≤ 7) → Dec (op_of x ≤ 8) → (holder_of (first_of x) ≤ 4) × (holder_of (second_of x) ≤ 4)
-      go (yes l) d = let (a, b) = and_both _ _ (sym (node-compares c f i x (omega arith) l) ∙ e) in (atomic-known (first_of x) m a, atomic-known (second_of x) n b)
-      go (no l) (yes k) = let (a, b) = and_both _ _ (sym (node-member c f i x (omega arith)) ∙ e) in (atomic-known (first_of x) m a, names-known 1 (second_of x) b)
-      go (no l) (no k) = let (a, b) = and_both _ _ (sym (node-sets c f i x (omega arith) h) ∙ e) in (names-known 1 (first_of x) a, names-known 1 (second_of x) b)
+      go (yes l) d = let (a, b) = and_parts _ _ (sym (node-compares c f i x (omega arith) l) ∙ e) in (atomic-known (first_of x) m a, atomic-known (second_of x) n b)
+      go (no l) (yes k) = let (a, b) = and_parts _ _ (sym (node-member c f i x (omega arith)) ∙ e) in (atomic-known (first_of x) m a, names-known 1 (second_of x) b)
+      go (no l) (no k) = let (a, b) = and_parts _ _ (sym (node-sets c f i x (omega arith) h) ∙ e) in (names-known 1 (first_of x) a, names-known 1 (second_of x) b)
 
 -- node x compares two attributes of different lists
 pub record Differs (c : Lists) (x : ℕ) : Type 0 where
@@ -151,11 +139,11 @@ differs c f i x e d = go (dec_le 5 (op_of x)) (dec_le (op_of x) 10)
     b = second_of x
 
     go : Dec (5 ≤ op_of x) → Dec (op_of x ≤ 10) → Differs c x
-    go (no g) l = true-false (agree-others c x (λ h _. g h)) d
-    go (yes g) (no h) = true-false (agree-others c x (λ _ k. h k)) d
+    go (no g) l = absurd (both_ways _ d (agree-others c x (λ h _. g h)))
+    go (yes g) (no h) = absurd (both_ways _ d (agree-others c x (λ _ k. h k)))
     go (yes g) (yes h) =
-        let (m, l) = or-neither (eqb (holder_of a) 5 || eqb (holder_of b) 5) (eqb (named c a).list (named c b).list) (sym (agree-compared c x g h) ∙ d) in
-        let (m₀, m₁) = or-neither (eqb (holder_of a) 5) (eqb (holder_of b) 5) m in
+        let (m, l) = or_parts (eqb (holder_of a) 5 || eqb (holder_of b) 5) (eqb (named c a).list (named c b).list) (sym (agree-compared c x g h) ∙ d) in
+        let (m₀, m₁) = or_parts (eqb (holder_of a) 5) (eqb (holder_of b) 5) m in
         let (k₀, k₁) = operands-known c f i x e g h (eqb-false (holder_of a) 5 m₀) (eqb-false (holder_of b) 5 m₁) in
         record { from-5 = g; to-10 = h; first = k₀; second = k₁; differ = eqb-false (named c a).list (named c b).list l }
 
@@ -185,7 +173,7 @@ module _ (r : Rules) where
   pub gives-unlisted : Unlisted (attributes (policy_of r).lists) → (n : ℕ) → policy_format.judge (policy_of r) ≡ some n → n ≤ 8
   gives-unlisted u =
       (gives-policy (λ n. n ≤ 8) (omega arith) (λ n _ h. h) r (λ m a k e h. absurd (no-list-fault (subst ListFault e (list-fault m a k h))))
-      (λ f i g h. true-false (unlisted-agree (policy_of r).lists u _) h)).only
+      (λ f i g h. absurd (both_ways _ h (unlisted-agree (policy_of r).lists u _)))).only
     where
       no-list-fault : ListFault (attributes (policy_of r).lists) → ⊥
       no-list-fault w = ⊎_elim (λ h. omega (arith, u w.0)) (λ v. omega (arith, v.1.1, u w.0)) w.1

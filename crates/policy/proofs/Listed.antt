@@ -17,11 +17,12 @@ use Rattle.format.specs.Format.{check, rows_judge, rows, via, zeros}
 use Rattle.format.proofs.Chain.{within-true}
 use Rattle.format.proofs.Fault.{first-none, unless-none}
 use Rattle.format.proofs.Law.{judged-field, judged-pair, judged-each}
+use Rattle.std.proofs.lemmas.Bool.{or_cases}
 use Rattle.policy.specs.Policy.{Attr, no_attr, Lists, Policy}
 use Rattle.policy.specs.Nodes.{op_of, first_of, second_of, holder_of, place_of, of_holder, named, lists_agree}
 use Rattle.policy.specs.File.{no_sizes, sizes_after, size_fits, attr_format, class_format, lists_format, node_format, formula_format, policy_format}
 use Rattle.policy.proofs.Laws.{sizes-app, sizes-more}
-use Rattle.policy.proofs.NodeLaws.{or-either, same_lists, agree-others, agree-compared, agree-equal}
+use Rattle.policy.proofs.NodeLaws.{same_lists, agree-others, agree-compared, agree-equal}
 
 -- the attributes of all classes in reading order
 abbrev pub attributes : Lists → List Attr
@@ -80,8 +81,8 @@ unfolding size_fits
 known-size t a f l h =
     let z = get_or t a.list 0 in
     ⊎_elim
-    (λ e. ⊎_elim (λ d. absurd (omega (arith, eqb-true a.list 0 d))) (λ d. absurd (omega (arith, eqb-true z 0 d))) (or-either (eqb a.list 0) (eqb z 0) e))
-    (λ e. eqb-true z a.size e) (or-either (eqb a.list 0 || eqb z 0) (eqb z a.size) f.fits)
+    (λ e. ⊎_elim (λ d. absurd (omega (arith, eqb-true a.list 0 d))) (λ d. absurd (omega (arith, eqb-true z 0 d))) (or_cases (eqb a.list 0) (eqb z 0) e))
+    (λ e. eqb-true z a.size e) (or_cases (eqb a.list 0 || eqb z 0) (eqb z a.size) f.fits)
 
 -- list n has size z, above 0: it stays so, and every attribute of that list has it
 kept-size : (t : List ℕ) (n z : ℕ) (l : List Attr) → length t ≡ 32 → Fitting t l → 0 < n → 0 < z → get_or t n 0 ≡ z → (k : ℕ) → (get_or l k no_attr).list ≡ n → (get_or l k no_attr).size ≡ z

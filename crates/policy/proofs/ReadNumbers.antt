@@ -15,12 +15,12 @@ use Rattle.format.specs.File.{read_file}
 use Rattle.format.proofs.Law.{lawful-field}
 use Rattle.format.proofs.Refuses.{Refuses, refuses-field, refuses-field-where, refuses-check, refuses-pair, refuses-via, refuses-zeros}
 use Rattle.format.proofs.Refuses.{refuses-rows, refuses-rows-where, refuses-file}
+use Rattle.std.proofs.lemmas.Bool.{both_ways}
 use Rattle.policy.specs.Policy.{Attr, no_attr, Head, Lists}
 use Rattle.policy.specs.Nodes.{lists_agree}
 use Rattle.policy.specs.File.{count, head_format, size_fits, attr_format, class_format, lists_format, value_format, session_format, node_format, formula_format, policy_format}
 use Rattle.policy.proofs.Laws.{zero-fits}
 use Rattle.policy.proofs.Listed.{attributes, unlisted-agree}
-use Rattle.policy.proofs.NodeLaws.{true-false}
 use Rattle.policy.proofs.Stands.{list_at, Stand, attr-place, class-place, lists-stand, head_at}
 
 module _ (P : ℕ → Type 0) (early : (n : ℕ) → 1 ≤ n → n ≤ 8 → P n) (s : List ℕ) where
@@ -138,8 +138,8 @@ pub read-unlisted : (s : List ℕ) → ((k : ℕ) → k < number_at s 0 4 + numb
 unfolding no_attr
 read-unlisted s z =
     refuses-file (λ n. n ≤ 8) s policy_format (omega arith) (omega arith)
-    (refuses-policy (λ n. n ≤ 8) (λ n _ h. h) s (λ k l sizes size e. true-false (zero-fits sizes size _ (z k l)) e)
-    (λ c t x e. true-false (unlisted-agree c (λ k. all c t k (dec_lt k total)) x) e))
+    (refuses-policy (λ n. n ≤ 8) (λ n _ h. h) s (λ k l sizes size e. absurd (both_ways _ e (zero-fits sizes size _ (z k l))))
+    (λ c t x e. absurd (both_ways _ e (unlisted-agree c (λ k. all c t k (dec_lt k total)) x))))
   where
     total : ℕ
     total = number_at s 0 4 + number_at s 4 4 + number_at s 8 4

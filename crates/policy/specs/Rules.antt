@@ -5,15 +5,25 @@
 use Rattle.std.specs.Prelude.{cond, List, ℕ, ◌+◌, ◌*◌, eqb, get_or, replicate}
 use Rattle.bits.specs.Packed.{tab}
 use Rattle.policy.specs.Policy.{Attr, Lists, Session, Policy}
+use Rattle.policy.specs.declared.Attribute.{Attribute}
 use Rattle.policy.specs.declared.Class.{Class}
 use Rattle.policy.specs.declared.Classes.{Classes}
 use Rattle.policy.specs.declared.Values.{Values}
+use Rattle.policy.specs.declared.Session.{Session as StartingSession}
 use Rattle.policy.specs.declared.Sessions.{Sessions}
 use Rattle.policy.specs.declared.Rules.{Rules}
 
+-- what an attribute in memory stands for
+abbrev pub as_attr : Attribute → Attr
+as_attr a = record { kind = a.kind; size = a.size; list = a.list }
+
+-- what stands where there is no attribute
+abbrev pub no_attribute : Attribute
+no_attribute = record { kind = 0; size = 0; list = 0 }
+
 -- attribute k of a class
 unfoldable pub attr_at : Class → ℕ → Attr
-attr_at c k = record { kind = get_or c.kinds k 0; size = get_or c.sizes k 0; list = get_or c.lists k 0 }
+attr_at c k = as_attr (get_or c.attributes k no_attribute)
 
 -- the attributes of a class
 unfoldable pub attrs_of : Class → List Attr
@@ -23,9 +33,21 @@ attrs_of c = tab (attr_at c) 0 c.count
 unfoldable pub values_of : Values → List ℕ
 values_of v = tab (λ k. get_or v.values k 0) 0 v.count
 
+-- what a starting session in memory stands for
+abbrev pub as_session : StartingSession → Session
+as_session s = record { user = s.user; value = s.value }
+
+-- what stands where there is no starting session
+abbrev pub no_session : StartingSession
+no_session = record { user = 0; value = 0 }
+
+-- starting session k
+unfoldable pub session_at : Sessions → ℕ → Session
+session_at t k = as_session (get_or t.sessions k no_session)
+
 -- the starting sessions
 unfoldable pub sessions_of : Sessions → List Session
-sessions_of t = tab (λ k. record { user = get_or t.users k 0; value = get_or t.values k 0 }) 0 t.count
+sessions_of t = tab (session_at t) 0 t.count
 
 -- n nodes of formula f, 64 places for each formula
 unfoldable pub nodes_of : List ℕ → ℕ → ℕ → List ℕ
@@ -63,12 +85,12 @@ policy_of r =
 -- the rules of no file: every count and every place is 0
 unfoldable pub no_rules : Rules
 no_rules =
-    let none : Class = record { count = 0; kinds = replicate 8 0; sizes = replicate 8 0; lists = replicate 8 0 } in
+    let none : Class = record { count = 0; attributes = replicate 8 no_attribute } in
     let empty : Values = record { count = 0; values = replicate 32 0 } in
     record {
       classes = record { user = none; session = none; item = none };
       users = empty;
-      sessions = record { count = 0; users = replicate 32 0; values = replicate 32 0 };
+      sessions = record { count = 0; sessions = replicate 32 no_session };
       items = empty;
       permissions = 0;
       lengths = replicate 12 0;

@@ -1,186 +1,155 @@
 // Which nodes a formula may have.
-ghost use Rattle.std.specs.Prelude.{◌≡◌, ◌≤◌, ◌&&◌, ◌||◌, cond, ltb, leb, eqb};
-ghost use Rattle.policy.specs.Nodes.{holder_of, may_use, of_holder, named, names, atomic, node_ok, lists_agree};
+ghost use Rattle.std.specs.Prelude.{◌≡◌, ◌≤◌, ◌&&◌, ◌||◌, cond, ltb, leb, eqb, Ok, Err};
+ghost use Rattle.refusal.specs.declared.Refusal.{Refusal};
+ghost use Rattle.policy.specs.Nodes.{may_use, of_holder, node_ok, lists_agree};
+ghost use Rattle.policy.specs.Operators.{number_of_comparison};
+ghost use Rattle.policy.specs.Operands.{operand_of, is_set, list_of, share_list, takes_operands, judged_operands};
 ghost use Rattle.policy.specs.Rules.{attrs_of, lists_of};
 
-use super::shape::byte_at;
+use super::operators::{Comparison, Operator};
 use super::{Class, Classes};
+use refusal::Refusal;
 
 // Whether formula f may use holder h besides constants.
+#[tactic(auto, unfolding(crate::specs::Nodes::may_use))]
 fn may_use(f: usize, h: u32) -> bool
     ensures { result ≡ may_use f h }
 {
-    if f == 0 {
-        if h == 0 {
-            return true;
-        }
-        return h == 2;
+    match f {
+        0 => h == 0 || h == 2,
+        1 => h <= 2,
+        2 => h == 1 || h == 4,
+        3 => h == 1 || h == 3 || h == 4,
+        _ => h == 1 || h == 3,
     }
-    if f == 1 {
-        return h <= 2;
-    }
-    if h == 1 {
-        return true;
-    }
-    if f == 2 {
-        return h == 4;
-    }
-    if h == 3 {
-        return true;
-    }
-    if f == 3 { h == 4 } else { false }
 }
 
 // The attributes of a holder.
+#[tactic(auto, unfolding(crate::specs::Nodes::of_holder, crate::specs::Rules::lists_of))]
 fn of_holder(classes: Classes, h: u32) -> Class
     ensures { attrs_of result ≡ of_holder (lists_of classes) h }
 {
-    if h == 0 {
-        return classes.user;
+    match h {
+        0 => classes.user,
+        1..=2 => classes.session,
+        _ => classes.item,
     }
-    if h <= 2 {
-        return classes.session;
-    }
-    classes.item
 }
 
-// What an operand of a formula names: an attribute of a kind, a constant from 0 to 15, or nothing that may stand there. Of an attribute the list
-// number is given too.
-#[derive(Clone, Copy)]
-pub struct Operand {
-    pub sort: u8,
-    pub list: u8,
+// What an operand of a formula names: an attribute, atomic or a set, with its list number, or a constant from 0 to 15.
+#[derive(Clone, Copy, Debug, PartialEq, Eq)]
+pub enum Operand {
+    Atomic(u8),
+    Set(u8),
+    Constant,
 }
 
 impl Operand {
-    // The sorts; those of attributes are their kinds.
-    pub const ATOMIC: u8 = 0;
+    fn is_set(self) -> bool
+        ensures { result ≡ is_set self }
+    {
+        matches!(self, Operand::Set(_))
+    }
 
-    pub const SET: u8 = 1;
+    // The list number of an attribute.
+    fn list(self) -> Option<u8>
+        ensures { result ≡ list_of self }
+    {
+        match self {
+            Operand::Atomic(list) | Operand::Set(list) => Some(list),
+            Operand::Constant => None,
+        }
+    }
 
-    pub const CONSTANT: u8 = 2;
-
-    pub const NOTHING: u8 = 3;
+    // Whether two attributes have the same list number; a constant fits any list.
+    fn shares_list(self, other: Operand) -> bool
+        ensures { result ≡ share_list self other }
+    {
+        match (self.list(), other.list()) {
+            (Some(own), Some(others)) => own == others,
+            _ => true,
+        }
+    }
 }
 
-// What operand x of formula f names.
-fn named_by(classes: Classes, f: usize, x: u32) -> Operand
-    ensures sort_value { (eqb result.sort 0 || eqb result.sort 2) ≡ atomic (lists_of classes) f x }
-    ensures sort_value_2 { eqb result.sort 1 ≡ names (lists_of classes) f 1 x }
-    ensures x_value { result.sort ≡ 2 → holder_of x ≡ 5 }
-    ensures fact { result.sort ≤ 1 → (holder_of x ≡ 5 → ⊥) × (result.list ≡ (named (lists_of classes) x).list) }
+// What operand x of formula f names, or nothing where it may not stand there.
+fn named_by(classes: Classes, f: usize, x: u32) -> Option<Operand>
+    ensures { result ≡ operand_of (lists_of classes) f x }
 {
-    let nothing = Operand {
-        sort: Operand::NOTHING,
-        list: 0,
-    };
     let h = x / 32;
     let k = (x % 32) as usize;
     if h == 5 {
-        if k < 16 {
-            return Operand {
-                sort: Operand::CONSTANT,
-                list: 0,
-            };
-        }
-        return nothing;
-    }
-    if !may_use(f, h) {
-        return nothing;
+        return if k < 16 {
+            Some(Operand::Constant)
+        } else {
+            None
+        };
     }
     let class = of_holder(classes, h);
-    if class.count as usize <= k {
-        return nothing;
+    if !may_use(f, h) || class.count as usize <= k {
+        return None;
     }
-    let kinds = class.kinds;
-    let kind = byte_at(&kinds, k);
-    if Operand::SET < kind {
-        return nothing;
-    }
-    let lists = class.lists;
-    Operand {
-        sort: kind,
-        list: byte_at(&lists, k),
+    let attribute = class.attribute(k);
+    match attribute.kind {
+        0 => Some(Operand::Atomic(attribute.list)),
+        1 => Some(Operand::Set(attribute.list)),
+        _ => None,
     }
 }
 
-// Whether a sort is that of an atomic value: an attribute's or a constant's.
-fn is_atomic(sort: u8) -> bool
-    ensures { result ≡ (eqb sort 0 || eqb sort 2) }
+// Whether a node may compare such operands.
+fn takes_operands(comparison: Comparison, first: Operand, second: Operand) -> bool
+    ensures { result ≡ takes_operands (number_of_comparison comparison) first second }
 {
-    if sort == Operand::ATOMIC {
-        return true;
+    match comparison {
+        Comparison::Equal | Comparison::Less | Comparison::AtMost => !first.is_set()
+            && !second.is_set(),
+        Comparison::Member => !first.is_set() && second.is_set(),
+        Comparison::Subset | Comparison::ProperSubset => first.is_set() && second.is_set(),
     }
-    sort == Operand::CONSTANT
 }
 
-// Whether operator op, 5 to 10, takes operands of these sorts.
-fn takes_values(op: u32, first: u8, second: u8) -> bool
-    ensures { result ≡ cond (leb op 7) ((eqb first 0 || eqb first 2) && (eqb second 0 || eqb second 2))
-        (cond (eqb op 8) ((eqb first 0 || eqb first 2) && eqb second 1) (eqb first 1 && eqb second 1)) }
+// What is wrong where node i compares the operands a and b of formula f.
+fn check_operands(
+    classes: Classes,
+    f: usize,
+    comparison: Comparison,
+    a: u32,
+    b: u32,
+) -> Result<(), Refusal>
+    ensures { result ≡ judged_operands (number_of_comparison comparison) (operand_of (lists_of classes) f a) (operand_of (lists_of classes) f b) }
 {
-    if op <= 8 {
-        if !is_atomic(first) {
-            return false;
-        }
-        if op <= 7 {
-            return is_atomic(second);
-        }
-        return second == Operand::SET;
+    let first = named_by(classes, f, a).ok_or(Refusal::Node)?;
+    let second = named_by(classes, f, b).ok_or(Refusal::Node)?;
+    if !takes_operands(comparison, first, second) {
+        return Err(Refusal::Node);
     }
-    if first == Operand::SET {
-        second == Operand::SET
+    if first.shares_list(second) {
+        Ok(())
     } else {
-        false
+        Err(Refusal::Lists)
     }
 }
 
-// Whether operator op, 0 to 4, takes a and b in node i: nothing, or earlier nodes.
-fn takes_nodes(op: u32, i: usize, a: u32, b: u32) -> bool
-    ensures { result ≡ cond (leb op 1) (eqb a 0 && eqb b 0) (cond (eqb op 2) (ltb a i && eqb b 0) (ltb a i && ltb b i)) }
+// Refuses a node that doesn't fit.
+fn fitting(fits: bool) -> Result<(), Refusal>
+    ensures { result ≡ cond fits (Ok tt) (Err Refusal.Node) }
 {
-    if op <= 1 {
-        if a == 0 {
-            return b == 0;
-        }
-        return false;
-    }
-    if i <= a as usize {
-        return false;
-    }
-    if op == 2 {
-        return b == 0;
-    }
-    (b as usize) < i
+    if fits { Ok(()) } else { Err(Refusal::Node) }
 }
 
-// What is wrong with x as node i of formula f: 8 where it may not stand there, 19 where it compares attributes of different lists, else 0.
-pub fn node_fault(classes: Classes, f: usize, i: usize, x: u32) -> u8
-    ensures { result ≡ cond (node_ok (lists_of classes) f i x) (cond (lists_agree (lists_of classes) x) 0 19) 8 }
+// Whether x may be node i of formula f. It may not be any where it doesn't fit, and it may not compare attributes of different lists.
+pub fn check_node(classes: Classes, f: usize, i: usize, x: u32) -> Result<(), Refusal>
+    ensures { result ≡ cond (node_ok (lists_of classes) f i x) (cond (lists_agree (lists_of classes) x) (Ok tt) (Err Refusal.Lists))
+        (Err Refusal.Node) }
 {
-    let op = x / 65536;
     let a = x / 256 % 256;
     let b = x % 256;
-    if op <= 4 {
-        if takes_nodes(op, i, a, b) {
-            return 0;
-        }
-        return 8;
+    match Operator::of_number(x / 65536) {
+        Some(Operator::False | Operator::True) => fitting(a == 0 && b == 0),
+        Some(Operator::Not) => fitting((a as usize) < i && b == 0),
+        Some(Operator::And | Operator::Or) => fitting((a as usize) < i && (b as usize) < i),
+        Some(Operator::Compare(comparison)) => check_operands(classes, f, comparison, a, b),
+        None => Err(Refusal::Node),
     }
-    if 10 < op {
-        return 8;
-    }
-    let p = named_by(classes, f, a);
-    let q = named_by(classes, f, b);
-    if !takes_values(op, p.sort, q.sort) {
-        return 8;
-    }
-    // a constant fits any list
-    if p.sort == Operand::CONSTANT {
-        return 0;
-    }
-    if q.sort == Operand::CONSTANT {
-        return 0;
-    }
-    if p.list == q.list { 0 } else { 19 }
 }

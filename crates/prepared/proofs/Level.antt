@@ -17,7 +17,8 @@ use Rattle.bitsets.proofs.Rows.{put_same, put_other}
 use Rattle.bitsets.proofs.Steps.{does-of, row-of, left-of, right_of_lem, says-join, says-bit, says-table}
 use Rattle.dependence.specs.Answers.{answer, earlier}
 use Rattle.dependence.proofs.Answers.{joined_same, answer-join, answer-leaf, earlier-before, earlier-none}
-use Rattle.prepared.specs.Level.{ref_of, node_step, steps_of, Listed, Start}
+use Rattle.prepared.specs.Level.{ref_of, node_step, steps_of}
+use Rattle.prepared.proofs.Start.{Start}
 use Rattle.prepared.proofs.Lists.{ref-earlier, ref-none, ref-few, step-cases, taken-long, taken-last, left_is, steps-kept, steps-from}
 
 module _ (chosen : ℕ → Bool) (step : ℕ → ℕ) (i : ℕ) (A : ℕ → ℕ → Bool) where
@@ -61,9 +62,10 @@ module _ (chosen : ℕ → Bool) (step : ℕ → ℕ) (i : ℕ) (A : ℕ → ℕ
             ap (λ (l : List ℕ). ran steps first i (length l) A) d
             ∙ r (λ j l. f j (omega (arith, ap length d)) ∙ ap (λ (s : List ℕ). get_or s j 0) d) ∙ sym (evaluated-left n e)
 
-    listed-evaluated : (n m : ℕ) → Listed chosen step n first m steps → ran steps first i m A ≡ evaluated n
-    listed-evaluated n m L =
-        ap (λ (k : ℕ). ran steps first i k A) L.count ∙ ran-evaluated n (λ j l. L.each j (omega (arith, L.count)))
+  -- the list of all of them
+  steps-evaluated : (n : ℕ) → ran (steps_of chosen step n) 0 i (length (steps_of chosen step n)) A ≡ evaluated n
+  steps-evaluated n =
+      ran-evaluated (steps_of chosen step n) 0 n (λ j l. ap (λ (k : ℕ). get_or (steps_of chosen step n) k 0) (omega arith))
 
 joined-twice : (x : Bool) → joined_by 4 x x false ≡ x
 unfolding joined_by
@@ -86,12 +88,12 @@ module _ {c : Lists} {nodes : List ℕ} {n : ℕ} {H : ℕ → Holders} {i own f
   own_row k l =
       let f = ref-few own (first_of (get_or nodes k 0)) k in
       let g = ref-few own (second_of (get_or nodes k 0)) k in
-      let b = S.base-few k l in
+      let b = S.places.base-few k l in
       step-cases own from (differ k) (indexed k) (get_or nodes k 0) k (base k) (λ s. row_of s ≡ own + k)
-      (λ d. row-of 5 (own + k) (from + k) 0 (omega (arith, S)) (omega (arith, S)) (omega arith))
-      (λ d o. row-of (op_of (get_or nodes k 0)) (own + k) _ _ (omega (arith, S)) (omega (arith, S, f)) (omega (arith, S, g)))
-      (λ d o x. row-of 6 (own + k) (base k) 0 (omega (arith, S)) b (omega arith))
-      (λ d o x. row-of 4 (own + k) (base k) (base k) (omega (arith, S)) b b)
+      (λ d. row-of 5 (own + k) (from + k) 0 (omega (arith, S.places)) (omega (arith, S.places)) (omega arith))
+      (λ d o. row-of (op_of (get_or nodes k 0)) (own + k) _ _ (omega (arith, S.places)) (omega (arith, S.places, f)) (omega (arith, S.places, g)))
+      (λ d o x. row-of 6 (own + k) (base k) 0 (omega (arith, S.places)) b (omega arith))
+      (λ d o x. row-of 4 (own + k) (base k) (base k) (omega (arith, S.places)) b b)
 
   -- a row that is no chosen node's stays
   untouched : (k : ℕ) → k ≤ n → (a v : ℕ) → ((j : ℕ) → j < k → chosen j ≡ true → a ≡ own + j → ⊥) → after k a v ≡ A a v
@@ -131,12 +133,12 @@ module _ {c : Lists} {nodes : List ℕ} {n : ℕ} {H : ℕ → Holders} {i own f
             ap (λ (a : ℕ). after k a v) (ref-earlier own j k p) ∙ wanted-right k (omega arith) R j v p h (w p)
             ∙ sym (earlier-before c nodes (H v) k j p)
         go (no p) =
-            ap (λ (a : ℕ). after k a v) (ref-none own j k (omega arith)) ∙ untouched k (omega arith) 0 v (λ x q t d. omega (arith, S.low, d))
+            ap (λ (a : ℕ). after k a v) (ref-none own j k (omega arith)) ∙ untouched k (omega arith) 0 v (λ x q t d. omega (arith, S.places.low, d))
             ∙ S.none v h ∙ sym (earlier-none c nodes (H v) k j (omega arith))
 
     -- a row outside those of the nodes stays
     base_stays : (a u : ℕ) → base k ≤ a → after k a u ≡ A a u
-    base_stays a u b = untouched k (omega arith) a u (λ x q t d. omega (arith, S.apart-base k l, d))
+    base_stays a u b = untouched k (omega arith) a u (λ x q t d. omega (arith, S.places.apart-base k l, d))
 
     -- node k's step says what the node says
     step_right : chosen k ≡ true → step_says (after k) i (step_at k) v ≡ answer c nodes (H v) k
@@ -144,20 +146,20 @@ module _ {c : Lists} {nodes : List ℕ} {n : ℕ} {H : ℕ → Holders} {i own f
     step_right e =
         let f = ref-few own (first_of node) k in
         let g = ref-few own (second_of node) k in
-        let b = S.base-few k l in
-        let p : own + k < 65536 = omega (arith, S) in
+        let b = S.places.base-few k l in
+        let p : own + k < 65536 = omega (arith, S.places) in
         step-cases own from (differ k) (indexed k) node k (base k) (λ s. step_says (after k) i s v ≡ answer c nodes (H v) k)
         (λ d.
-        let q : from + k < 65536 = omega (arith, S) in
+        let q : from + k < 65536 = omega (arith, S.places) in
         says-bit (after k) i (step_of 5 (own + k) (from + k) 0) v (does-of 5 (own + k) (from + k) 0 p q (omega arith))
         ∙ ap (λ (a : ℕ). after k a i) (left-of 5 (own + k) (from + k) 0 p q (omega arith))
-        ∙ untouched k (omega arith) (from + k) i (λ x y t z. S.apart_from k x l (omega arith) z) ∙ S.told k v l h e d)
+        ∙ untouched k (omega arith) (from + k) i (λ x y t z. S.places.apart_from k x l (omega arith) z) ∙ S.told k v l h e d)
         (λ d o.
         let x = ref_of own (first_of node) k in
         let y = ref_of own (second_of node) k in
         let s = step_of (op_of node) (own + k) x y in
-        let q : x < 65536 = omega (arith, S, f) in
-        let r : y < 65536 = omega (arith, S, g) in
+        let q : x < 65536 = omega (arith, S.places, f) in
+        let r : y < 65536 = omega (arith, S.places, g) in
         let w = does-of (op_of node) (own + k) x y p q r in
         says-join (after k) i s v (omega (arith, w))
         ∙ ap (λ (z : ℕ). joined_by z (after k (left_of s) v) (after k (right_of s) v) false) w
@@ -198,24 +200,24 @@ module _ {c : Lists} {nodes : List ℕ} {n : ℕ} {H : ℕ → Holders} {i own f
       go false t (yes d) R = absurd (true≢false (sym e ∙ ap chosen d ∙ t))
       go false t (no d) R = ap (λ (B : ℕ → ℕ → Bool). B (own + j) v) (evaluated-left chosen step_at i A k t) ∙ R j v (omega arith) h e
 
-  module _ {first m : ℕ} {steps : List ℕ}
-      (L : Listed chosen (λ k. node_step own from (differ k) (indexed k) (get_or nodes k 0) k (base k)) n first m steps) where
-    is-after : (a v : ℕ) → ran steps first i m A a v ≡ after n a v
+  module _ {steps : List ℕ} (L : steps ≡ steps_of chosen (λ k. node_step own from (differ k) (indexed k) (get_or nodes k 0) k (base k)) n) where
+    is-after : (a v : ℕ) → ran steps 0 i (length steps) A a v ≡ after n a v
     unfolding after step_at
-    is-after a v = ap (λ (B : ℕ → ℕ → Bool). B a v) (listed-evaluated chosen step_at i A steps first n m L)
+    is-after a v =
+        ap (λ (l : List ℕ). ran l 0 i (length l) A a v) L ∙ ap (λ (B : ℕ → ℕ → Bool). B a v) (steps-evaluated chosen step_at i A n)
 
     -- the row of a node that is wanted says what the node says
-    pub level-right : (k v : ℕ) → k < n → v < 256 → wanted k ≡ true → ran steps first i m A (own + k) v ≡ answer c nodes (H v) k
+    pub level-right : (k v : ℕ) → k < n → v < 256 → wanted k ≡ true → ran steps 0 i (length steps) A (own + k) v ≡ answer c nodes (H v) k
     level-right k v l h w = is-after (own + k) v ∙ wanted-right n (omega arith) (right n (omega arith)) k v l h w
 
     -- all rows below the board, past its end, and of nodes that are not chosen, stay
-    pub level-low : (a v : ℕ) → a < own → ran steps first i m A a v ≡ A a v
+    pub level-low : (a v : ℕ) → a < own → ran steps 0 i (length steps) A a v ≡ A a v
     level-low a v l = is-after a v ∙ untouched n (omega arith) a v (λ j p e d. omega arith)
 
-    pub level-high : (a v : ℕ) → own + n ≤ a → ran steps first i m A a v ≡ A a v
+    pub level-high : (a v : ℕ) → own + n ≤ a → ran steps 0 i (length steps) A a v ≡ A a v
     level-high a v l = is-after a v ∙ untouched n (omega arith) a v (λ j p e d. omega arith)
 
-    pub level-skipped : (k v : ℕ) → k < n → chosen k ≡ false → ran steps first i m A (own + k) v ≡ A (own + k) v
+    pub level-skipped : (k v : ℕ) → k < n → chosen k ≡ false → ran steps 0 i (length steps) A (own + k) v ≡ A (own + k) v
     level-skipped k v l e =
         is-after (own + k) v
         ∙ untouched n (omega arith) (own + k) v (λ j p t d. let z : k ≡ j = omega arith in true≢false (sym t ∙ ap chosen (sym z) ∙ e))
@@ -261,9 +263,8 @@ module _ (nodes : List ℕ) (n i own from : ℕ) (chosen differ indexed : ℕ �
       let w = base-fits k l e d o in
       fits-of 4 (own + k) (base k) (base k) (omega arith) b b (omega arith) w.1 w.1 (λ z. absurd (omega arith)))
 
-  pub level-fits : (first m : ℕ) (steps : List ℕ)
-      → Listed chosen (λ k. node_step own from (differ k) (indexed k) (get_or nodes k 0) k (base k)) n first m steps
-      → (j : ℕ) → j < m → Fits N i (get_or steps (first + j) 0)
-  level-fits first m steps L j l =
-      let w = steps-from chosen (λ k. node_step own from (differ k) (indexed k) (get_or nodes k 0) k (base k)) n j (omega (arith, L.count)) in
-      subst (Fits N i) (sym (L.each j l ∙ w.3)) (step_fits w.0 w.1 w.2)
+  pub level-fits : (steps : List ℕ) → steps ≡ steps_of chosen (λ k. node_step own from (differ k) (indexed k) (get_or nodes k 0) k (base k)) n
+      → (j : ℕ) → j < length steps → Fits N i (get_or steps j 0)
+  level-fits steps L j l =
+      let w = steps-from chosen (λ k. node_step own from (differ k) (indexed k) (get_or nodes k 0) k (base k)) n j (omega (arith, ap length L)) in
+      subst (Fits N i) (sym (ap (λ (l : List ℕ). get_or l j 0) L ∙ w.3)) (step_fits w.0 w.1 w.2)

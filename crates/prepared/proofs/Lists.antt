@@ -1,18 +1,18 @@
--- Laws of lists of steps. In order: the row of an earlier node; a node's step by its kind; which nodes are chosen; the steps of the first nodes: one
--- more, where each comes from; steps that stand in a longer list: none, one more, the same.
-use mathlib.Core.Path.{◌≡◌, refl, sym, ap, ap₂, ◌∙◌, subst}
-use mathlib.Core.Bool.{Bool, true, false, not, cond}
+-- Laws of lists of steps. In order: the row of an earlier node; a node's step by its kind; the steps of the first nodes: one more, where each comes
+-- from, how many they are.
+use mathlib.Core.Path.{◌≡◌, refl, sym, ap, ◌∙◌, subst}
+use mathlib.Core.Bool.{Bool, true, false, cond}
 use mathlib.Core.List.{List, [], ◌∷◌, ◌++◌, append-nil}
 use Prim.Native.Nat.{ℕ, zero, suc, ◌+◌, ◌≤◌, ◌<◌}
 use native.Mathlib.Decide.{dec_lt}
 use native.Mathlib.Numerals.{add-one}
 use native.Mathlib.Omega.{arith}
 use borrow.Author.Tests.{lt-ltb, le-ltb}
-use lib.ListN.{length, get_or, set, length-append, length-set, get_or-append}
-use lib.Seq.{get_or_at, get_or-set_same, get_or-set_other}
+use lib.ListN.{length, get_or, length-append, get_or-append}
+use lib.Seq.{get_or_at}
 use Rattle.policy.specs.Nodes.{op_of, first_of, second_of}
 use Rattle.bitsets.specs.Steps.{step_of}
-use Rattle.prepared.specs.Level.{ref_of, node_step, same_as, steps_of, Listed}
+use Rattle.prepared.specs.Level.{ref_of, node_step, steps_of}
 
 module _ (own j k : ℕ) where
   pub ref-earlier : j < k → ref_of own j k ≡ own + j
@@ -63,16 +63,8 @@ module _ (own from : ℕ) (differ indexed : Bool) (node k base : ℕ) where
       go true d true e (no o) = subst P (sym (step-taken d (omega arith) e)) (taken d (omega arith) e)
       go true d false e (no o) = subst P (sym (step-copied d (omega arith) e)) (copied d (omega arith) e)
 
-pub same_true : (flag : Bool) → same_as true flag ≡ flag
-unfolding same_as
-same_true flag = refl
-
-pub same_false : (flag : Bool) → same_as false flag ≡ not flag
-unfolding same_as
-same_false flag = refl
-
 module _ (chosen : ℕ → Bool) (step : ℕ → ℕ) where
-  taken_is : (n : ℕ) → chosen n ≡ true → steps_of chosen step (suc n) ≡ steps_of chosen step n ++ (step n ∷ [])
+  pub taken_is : (n : ℕ) → chosen n ≡ true → steps_of chosen step (suc n) ≡ steps_of chosen step n ++ (step n ∷ [])
   unfolding steps_of
   taken_is n e = ap (λ (b : Bool). steps_of chosen step n ++ cond b (step n ∷ []) []) e
 
@@ -107,7 +99,7 @@ module _ (chosen : ℕ → Bool) (step : ℕ → ℕ) where
           (n, omega arith, e, ap (λ (z : ℕ). get_or (steps_of chosen step (suc n)) z 0) d ∙ taken-last n e)
       go false e (no q) f = absurd (omega (arith, ap length (left_is n e), l))
 
-  steps-few : (n : ℕ) → length (steps_of chosen step n) ≤ n
+  pub steps-few : (n : ℕ) → length (steps_of chosen step n) ≤ n
   unfolding steps_of
   steps-few zero = omega arith
   steps-few (suc n) = go (chosen n) refl (steps-few n)
@@ -115,70 +107,3 @@ module _ (chosen : ℕ → Bool) (step : ℕ → ℕ) where
       go : (b : Bool) → chosen n ≡ b → length (steps_of chosen step n) ≤ n → length (steps_of chosen step (suc n)) ≤ suc n
       go true e l = omega (arith, taken-long n e)
       go false e l = omega (arith, ap length (left_is n e))
-
-  module _ (first : ℕ) where
-    pub listed_start : (steps : List ℕ) → Listed chosen step 0 first 0 steps
-    unfolding steps_of
-    listed_start steps = record { count = refl; each = λ j l. absurd (omega arith) }
-
-    pub listed-few : (n m : ℕ) (steps : List ℕ) → Listed chosen step n first m steps → m ≤ n
-    listed-few n m steps L = omega (arith, L.count, steps-few n)
-
-    listed-taken : (n m : ℕ) (steps : List ℕ) → Listed chosen step n first m steps → first + m < length steps → chosen n ≡ true →
-        Listed chosen step (suc n) first (suc m) (set steps (first + m) (step n))
-    listed-taken n m steps L l e =
-        record {
-          count = ap suc L.count ∙ sym (taken-long n e);
-          each = λ j p. each j (dec_lt j m) p;
-        }
-      where
-        each : (j : ℕ) → Dec (j < m) → j < suc m → get_or (set steps (first + m) (step n)) (first + j) 0 ≡ get_or (steps_of chosen step (suc n)) j 0
-        each j (yes q) p =
-            get_or-set_other steps (first + m) (first + j) (step n) 0 (λ d. omega arith) ∙ L.each j q ∙ sym (steps-kept n j (omega (arith, L.count)))
-        each j (no q) p =
-            let d : j ≡ m = omega arith in
-            ap (λ (z : ℕ). get_or (set steps (first + m) (step n)) (first + z) 0) d ∙ get_or-set_same steps (first + m) (step n) 0 l
-            ∙ sym (ap (λ (z : ℕ). get_or (steps_of chosen step (suc n)) z 0) (d ∙ L.count) ∙ taken-last n e)
-
-    listed-left : (n m : ℕ) (steps : List ℕ) → Listed chosen step n first m steps → chosen n ≡ false → Listed chosen step (suc n) first m steps
-    listed-left n m steps L e =
-        record { count = L.count ∙ ap length (sym (left_is n e)); each = λ j p. L.each j p ∙ ap (λ (l : List ℕ). get_or l j 0) (sym (left_is n e)) }
-
-    -- one node more
-    pub listed_more : (n m j : ℕ) (on : Bool) (s : ℕ) (old new : List ℕ) → Listed chosen step n first m old → first + m < length old → on ≡ chosen n
-        → s ≡ step n → new ≡ cond on (set old (first + m) s) old → j ≡ cond on (m + 1) m → Listed chosen step (n + 1) first j new
-    listed_more n m j true s old new L l w e a b =
-        rw (a, e, b, add-one n, add-one m) (listed-taken n m old L l (sym w))
-    listed_more n m j false s old new L l w e a b = rw (a, b, add-one n) (listed-left n m old L (sym w))
-
--- the steps of other choices and nodes, where they are the same
-module _ (chosen other : ℕ → Bool) (step change : ℕ → ℕ) where
-  steps_alike : (n : ℕ) → ((k : ℕ) → k < n → chosen k ≡ other k) → ((k : ℕ) → k < n → step k ≡ change k)
-      → steps_of chosen step n ≡ steps_of other change n
-  unfolding steps_of
-  steps_alike zero p q = refl
-  steps_alike (suc n) p q =
-      ap₂ (λ (l : List ℕ) (x : List ℕ). l ++ x) (steps_alike n (λ k l. p k (omega arith)) (λ k l. q k (omega arith)))
-      (ap₂ (λ (b : Bool) (s : ℕ). cond b (s ∷ []) []) (p n (omega arith)) (q n (omega arith)))
-
-  pub listed-alike : (n first m : ℕ) (steps : List ℕ) → ((k : ℕ) → k < n → chosen k ≡ other k) → ((k : ℕ) → k < n → step k ≡ change k)
-      → Listed chosen step n first m steps → Listed other change n first m steps
-  listed-alike n first m steps p q L =
-      let e = steps_alike n p q in
-      record { count = L.count ∙ ap length e; each = λ j l. L.each j l ∙ ap (λ (s : List ℕ). get_or s j 0) e }
-
--- a list after one step more is stored, where it is asked for
-module _ (on : Bool) (l : List ℕ) (k s : ℕ) (r : List ℕ) (e : r ≡ cond on (set l k s) l) where
-  pub added-long : length r ≡ length l
-  added-long = go on refl
-    where
-      go : (b : Bool) → on ≡ b → length r ≡ length l
-      go true d = ap length (e ∙ ap (λ (b : Bool). cond b (set l k s) l) d) ∙ length-set l k s
-      go false d = ap length (e ∙ ap (λ (b : Bool). cond b (set l k s) l) d)
-
-  pub added-below : (j : ℕ) → j < k → get_or r j 0 ≡ get_or l j 0
-  added-below j p = go on refl
-    where
-      go : (b : Bool) → on ≡ b → get_or r j 0 ≡ get_or l j 0
-      go true d = ap (λ (x : List ℕ). get_or x j 0) (e ∙ ap (λ (b : Bool). cond b (set l k s) l) d) ∙ get_or-set_other l k j s 0 (λ z. omega arith)
-      go false d = ap (λ (x : List ℕ). get_or x j 0) (e ∙ ap (λ (b : Bool). cond b (set l k s) l) d)

@@ -64,7 +64,7 @@ module _ (g h : ℕ) where
       go (no m) (yes n) = none_of O (λ e. d (sym n ∙ e)) (λ e. b (sym (other-of L m p) ∙ e))
       go (no m) (no n) = absurd (a (sym (other-of L m p) ∙ other-of R n q))
 
-module _ {c : Lists} {nodes : List ℕ} {L R O : ℕ} {p : Plan} {steps area : List ℕ} (P : Prepared c nodes L R O p steps area) where
+module _ {c : Lists} {nodes : List ℕ} {L R O : ℕ} {p : Plan} {area : List ℕ} (P : Prepared c nodes L R O p area) where
   abbrev pub on_lanes : ℕ → Bool
   on_lanes k = get_or P.lanes k false
 
@@ -161,7 +161,7 @@ module _ {c : Lists} {nodes : List ℕ} {L R O : ℕ} {p : Plan} {steps area : L
   pub table-few : (k : ℕ) → k < p.nodes → table_at P.room k < 65536
   unfolding table_at
   table-few k l =
-      let q : k * P.room ≤ 63 * 256 = mul-le-mul {n₁ = k} {n₂ = 63} (omega (arith, P.runs.few)) P.room-few in
+      let q : k * P.room ≤ 63 * 256 = mul-le-mul {n₁ = k} {n₂ = 63} (omega (arith, p.nodes_in_range)) P.room-few in
       omega (arith, q)
 
   pub table-past : (k : ℕ) → 193 ≤ table_at P.room k

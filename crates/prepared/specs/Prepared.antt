@@ -6,7 +6,7 @@
 --   129 to 192, outer       bit v: the outer holder has value v; of nodes that depend on neither
 --   from 193 on             for each comparison one row, or one row for each value of another holder that it depends on
 -- Assumes nothing.
-use Rattle.std.specs.Prelude.{◌≡◌, Bool, true, false, ◌||◌, cond, List, ℕ, ◌+◌, ◌*◌, ◌%◌, ◌^◌, ◌≤◌, ◌<◌, min, ltb, eqb, length, get_or}
+use Rattle.std.specs.Prelude.{◌≡◌, Bool, false, not, ◌||◌, cond, List, ℕ, ◌+◌, ◌*◌, ◌%◌, ◌^◌, ◌≤◌, ◌<◌, min, ltb, eqb, length, get_or}
 use Rattle.policy.specs.Policy.{Lists, width}
 use Rattle.policy.specs.Nodes.{op_of, of_holder}
 use Rattle.formulas.specs.declared.Holders.{Holders}
@@ -15,7 +15,7 @@ use Rattle.bitsets.specs.Steps.{ran, Fits}
 use Rattle.dependence.specs.Answers.{holders_of, answer}
 use Rattle.dependence.specs.Depends.{Depends}
 use Rattle.sides.specs.Leaf.{leaf}
-use Rattle.prepared.specs.Level.{node_step, same_as, Listed}
+use Rattle.prepared.specs.Level.{node_step, steps_of}
 use Rattle.prepared.specs.declared.Plan.{Plan}
 
 -- where the table of node k begins: each table has place for `room` rows
@@ -26,29 +26,20 @@ table_at room k = 193 + k * room
 unfoldable pub room_of : Lists → ℕ → ℕ
 room_of c h = cond (ltb h 5) (min (2 ^ width (of_holder c h)) 256) 1
 
--- the rows for the outer value o: the steps across from place 0 on, then those of the board from place 64 on
-unfoldable pub begun : Plan → List ℕ → ℕ → (ℕ → ℕ → Bool) → ℕ → ℕ → Bool
-begun p steps o A = ran steps 64 (o % p.outers) p.board (ran steps 0 (o % p.outers) p.across A)
+-- the rows for the outer value o: after the steps across, then those of the board
+unfoldable pub begun : Plan → ℕ → (ℕ → ℕ → Bool) → ℕ → ℕ → Bool
+begun p o A = ran p.board 0 (o % p.outers) (length p.board) (ran p.across 0 (o % p.outers) (length p.across) A)
 
--- the rows for the row value r: the steps of the nodes that depend on it, from place 128 on
-unfoldable pub rowed : Plan → List ℕ → ℕ → (ℕ → ℕ → Bool) → ℕ → ℕ → Bool
-rowed p steps r A = ran steps 128 (r % p.rows) p.row A
+-- the rows for the row value r: after the steps of the nodes that depend on it
+unfoldable pub rowed : Plan → ℕ → (ℕ → ℕ → Bool) → ℕ → ℕ → Bool
+rowed p r A = ran p.row 0 (r % p.rows) (length p.row) A
 
 -- the steps find their rows in an area of n words
-pub record Runs (p : Plan) (steps : List ℕ) (n : ℕ) : Type 0 where
-  pub few : p.nodes ≤ 64
-  pub rows : 0 < p.rows
-  pub rows_few : p.rows ≤ 256
-  pub outers : 0 < p.outers
-  pub outers-few : p.outers ≤ 256
-  pub across-few : p.across ≤ 64
-  pub board-few : p.board ≤ 64
-  pub row-few : p.row ≤ 64
-  pub long : 192 ≤ length steps
+pub record Runs (p : Plan) (n : ℕ) : Type 0 where
   pub last : 4 * p.nodes + 4 ≤ n
-  pub across : (i j : ℕ) → i < p.outers → j < p.across → Fits n i (get_or steps (0 + j) 0)
-  pub board : (i j : ℕ) → i < p.outers → j < p.board → Fits n i (get_or steps (64 + j) 0)
-  pub row : (i j : ℕ) → i < p.rows → j < p.row → Fits n i (get_or steps (128 + j) 0)
+  pub across : (i j : ℕ) → i < p.outers → j < length p.across → Fits n i (get_or p.across j 0)
+  pub board : (i j : ℕ) → i < p.outers → j < length p.board → Fits n i (get_or p.board j 0)
+  pub row : (i j : ℕ) → i < p.rows → j < length p.row → Fits n i (get_or p.row j 0)
 
 -- L, R and O are the numbers of the lane, the row and the outer holder
 module _ (L R O : ℕ) where
@@ -69,12 +60,12 @@ rows_for c L R O lanes rows outer = cond (cond lanes (rows || outer) (cond rows 
 
 module _ (c : Lists) (nodes : List ℕ) (L R O : ℕ) where
   -- which nodes depend on each of the three, for how many rows each table has place, what the area has, and the lists of steps
-  pub record Prepared (p : Plan) (steps area : List ℕ) : Type 0 where
+  pub record Prepared (p : Plan) (area : List ℕ) : Type 0 where
     pub apart : (L ≡ R → ⊥) × (L ≡ O → ⊥) × (R ≡ O → ⊥)
     pub many : length nodes ≡ p.nodes
     pub rows_are : p.rows ≡ room_of c R
     pub outers-are : p.outers ≡ room_of c O
-    pub runs : Runs p steps (length area)
+    pub runs : Runs p (length area)
     pub lanes : List Bool
     pub rows : List Bool
     pub outer : List Bool
@@ -88,9 +79,9 @@ module _ (c : Lists) (nodes : List ℕ) (L R O : ℕ) where
         → i < rows_for c L R O (get_or lanes k false) (get_or rows k false) (get_or outer k false)
         → bit_at area (table_at room k + i) v ≡ leaf c (lane_for L R O (get_or lanes k false) (get_or rows k false)) (row_for L R O (get_or lanes k false) (get_or rows k false)) (get_or nodes k 0) i v
     pub told : (k i : ℕ) → k < p.nodes → i < 256 → get_or lanes k false ≡ false → get_or rows k false ≡ false → bit_at area (129 + k) i ≡ answer c nodes (holders L R O i 0 0) k
-    pub across : Listed (λ k. same_as false (get_or lanes k false)) (λ k. node_step 65 129 (get_or rows k false) (get_or outer k false) (get_or nodes k 0) k (table_at room k)) p.nodes 0 p.across steps
-    pub board : Listed (λ k. same_as false (get_or rows k false)) (λ k. node_step 1 129 (get_or lanes k false) (get_or outer k false) (get_or nodes k 0) k (table_at room k)) p.nodes 64 p.board steps
-    pub row : Listed (λ k. same_as true (get_or rows k false)) (λ k. node_step 1 65 (get_or lanes k false) (get_or rows k false) (get_or nodes k 0) k (table_at room k)) p.nodes 128 p.row steps
+    pub across : p.across ≡ steps_of (λ k. not (get_or lanes k false)) (λ k. node_step 65 129 (get_or rows k false) (get_or outer k false) (get_or nodes k 0) k (table_at room k)) p.nodes
+    pub board : p.board ≡ steps_of (λ k. not (get_or rows k false)) (λ k. node_step 1 129 (get_or lanes k false) (get_or outer k false) (get_or nodes k 0) k (table_at room k)) p.nodes
+    pub row : p.row ≡ steps_of (λ k. get_or rows k false) (λ k. node_step 1 65 (get_or lanes k false) (get_or rows k false) (get_or nodes k 0) k (table_at room k)) p.nodes
 
   -- across and the board are worked out for the outer value o
   pub record Begun (p : Plan) (o : ℕ) (lanes rows : List Bool) (area : List ℕ) : Type 0 where
@@ -98,6 +89,6 @@ module _ (c : Lists) (nodes : List ℕ) (L R O : ℕ) where
     pub board : (k v : ℕ) → k < p.nodes → v < 256 → get_or rows k false ≡ false → bit_at area (1 + k) v ≡ answer c nodes (holders L R O o 0 v) k
 
   -- prepared, and worked out for the outer value o
-  pub record Ready (p : Plan) (o : ℕ) (steps area : List ℕ) : Type 0 where
-    pub prepared : Prepared p steps area
+  pub record Ready (p : Plan) (o : ℕ) (area : List ℕ) : Type 0 where
+    pub prepared : Prepared p area
     pub begun : Begun p (o % p.outers) prepared.lanes prepared.rows area

@@ -3,25 +3,27 @@
 use mathlib.Core.Path.{◌≡◌, refl, sym, ap, ap₂, ◌∙◌}
 use mathlib.Core.Bool.{Bool, true, false, not, ◌||◌, cond, true≢false}
 use mathlib.Core.List.{List}
+use mathlib.Core.Logic.{inr}
 use Prim.Native.Nat.{ℕ, ◌+◌, ◌≤◌, ◌<◌}
 use native.Mathlib.Decide.{ℕ_discrete}
 use native.Mathlib.Omega.{arith}
 use borrow.Author.Tests.{eq-eqb, ne_eqb}
 use lib.Dec.{eqb}
-use lib.ListN.{get_or}
+use lib.ListN.{length, get_or}
 use Rattle.policy.specs.Policy.{Lists}
 use Rattle.policy.specs.Nodes.{op_of}
-use Rattle.bitsets.specs.Rows.{bit_at}
+use Rattle.bitsets.specs.Rows.{bit_at, Rows}
+use Rattle.bitsets.specs.Steps.{ran}
 use Rattle.dependence.specs.Answers.{answer, leaf_of}
 use Rattle.dependence.specs.Depends.{Depends}
 use Rattle.dependence.proofs.Depending.{depends-first, depends-second}
 use Rattle.dependence.proofs.Operands.{leaf-two}
 use Rattle.sides.specs.Leaf.{two, leaf}
-use Rattle.prepared.specs.Level.{Start}
+use Rattle.prepared.specs.Level.{node_step, steps_of}
 use Rattle.prepared.specs.Prepared.{table_at, holders, lane_for, row_for, rows_for}
+use Rattle.prepared.proofs.Start.{Start, places_of}
 use Rattle.prepared.proofs.Level.{level-right, level-low, level-high}
 use Rattle.tables.specs.Tables.{Tables}
-use Rattle.preparing.specs.Levels.{Worked}
 use Rattle.tables.proofs.Filling.{table_is}
 use Rattle.preparing.proofs.Boards.{table-few}
 
@@ -68,7 +70,9 @@ rows-alone c L R O a b d p q = rw (p, q) refl
 module _ (c : Lists) (nodes : List ℕ) (L R O n room : ℕ) (lanes rows outer : List Bool) (p : L ≡ O → ⊥) (q : R ≡ O → ⊥)
     (on-lanes : Depends (λ k. get_or nodes k 0) L n lanes) (on-rows : Depends (λ k. get_or nodes k 0) R n rows) (few : n ≤ 64) (room-few : room ≤ 256)
     (first laid area : List ℕ) (clear : (v : ℕ) → v < 256 → bit_at first 0 v ≡ false)
-    (T : Tables c L R O lanes rows outer (λ k. get_or nodes k 0) room n first laid) (W : Worked nodes lanes rows room n laid area) where
+    (T : Tables c L R O lanes rows outer (λ k. get_or nodes k 0) room n first laid) (steps : List ℕ)
+    (S : steps ≡ steps_of (λ k. not (get_or lanes k false || get_or rows k false)) (λ k. node_step 129 65 true false (get_or nodes k 0) k (table_at room k)) n)
+    (W : Rows (ran steps 0 0 (length steps) (bit_at laid)) area) where
   neither : ℕ → Bool
   neither k = not (get_or lanes k false || get_or rows k false)
 
@@ -88,14 +92,8 @@ module _ (c : Lists) (nodes : List ℕ) (L R O n room : ℕ) (lanes rows outer :
   unfolding neither
   start =
       record {
-        few = few;
-        index = omega arith;
-        low = omega arith;
-        own-few = omega arith;
-        from-few = omega arith;
-        base-few = λ k l. table-few room k (omega arith) room-few;
-        apart_from = λ j k a b e. omega arith;
-        apart-base = λ k l. omega (arith, table_is room k);
+        places = places_of n 0 129 65 (table_at room) few (omega arith) (omega arith) (omega arith) (omega arith) (inr (omega arith))
+            (λ k l. (omega (arith, table_is room k), table-few room k (omega arith) room-few));
         none = λ v h. T.kept 0 v (omega arith) h ∙ clear v h;
         told = λ k v l h e d. absurd (true≢false d);
         taken = λ k v l h e d o x. absurd (true≢false (sym x));
@@ -111,13 +109,13 @@ module _ (c : Lists) (nodes : List ℕ) (L R O n room : ℕ) (lanes rows outer :
 
   pub worked-none : (v : ℕ) → v < 256 → bit_at area 0 v ≡ false
   unfolding neither
-  worked-none v h = W.rows_are.each 0 v h ∙ level-low start W.listed 0 v (omega arith) ∙ T.kept 0 v (omega arith) h ∙ clear v h
+  worked-none v h = W.each 0 v h ∙ level-low start S 0 v (omega arith) ∙ T.kept 0 v (omega arith) h ∙ clear v h
 
   pub worked-told : (k i : ℕ) → k < n → i < 256 → get_or lanes k false ≡ false → get_or rows k false ≡ false
       → bit_at area (129 + k) i ≡ answer c nodes (holders L R O i 0 0) k
   unfolding neither
   worked-told k i l h a b =
-      W.rows_are.each (129 + k) i h ∙ level-right start W.listed k i l h (neither-is (get_or lanes k false) (get_or rows k false) a b)
+      W.each (129 + k) i h ∙ level-right start S k i l h (neither-is (get_or lanes k false) (get_or rows k false) a b)
 
   pub worked-tables : (k i v : ℕ) → k < n → v < 256 → 5 ≤ op_of (get_or nodes k 0)
       → i < rows_for c L R O (get_or lanes k false) (get_or rows k false) (get_or outer k false)
@@ -125,5 +123,5 @@ module _ (c : Lists) (nodes : List ℕ) (L R O n room : ℕ) (lanes rows outer :
       ≡ leaf c (lane_for L R O (get_or lanes k false) (get_or rows k false)) (row_for L R O (get_or lanes k false) (get_or rows k false)) (get_or nodes k 0) i v
   unfolding neither
   worked-tables k i v l h o e =
-      W.rows_are.each (table_at room k + i) v h ∙ level-high start W.listed (table_at room k + i) v (omega (arith, table_is room k))
+      W.each (table_at room k + i) v h ∙ level-high start S (table_at room k + i) v (omega (arith, table_is room k))
       ∙ T.each k i v l h o e

@@ -1,25 +1,32 @@
--- A formula's nodes on the three boards: those that depend on neither the lane holder nor the row holder are worked out once, and the steps of the
--- others are listed.
+-- The lists of steps of a formula: of which nodes they are, and how each step is made.
 -- Assumes nothing.
 use Rattle.std.specs.Prelude.{Bool, true, false, not, ◌||◌, List, ℕ, get_or}
-use Rattle.bitsets.specs.Rows.{bit_at, Rows}
-use Rattle.bitsets.specs.Steps.{ran}
-use Rattle.prepared.specs.Level.{node_step, same_as, Listed}
+use Rattle.prepared.specs.Level.{node_step, steps_of}
 use Rattle.prepared.specs.Prepared.{table_at}
+use Rattle.tables.specs.Tables.{marks_at}
+use Rattle.tables.specs.declared.Marks.{Marks}
+use Rattle.tables.specs.declared.On.{On}
+use Rattle.preparing.specs.declared.steps.Level.{Level}
+use Rattle.preparing.specs.declared.steps.Level.TheVariants.{Outer, Across, Board, Row}
+use Rattle.preparing.specs.declared.steps.Way.{Way}
 
--- some steps work out the nodes that depend on neither, on the outer board
-pub record Worked (nodes : List ℕ) (lanes rows : List Bool) (room n : ℕ) (old new : List ℕ) : Type 0 where
-  pub steps : List ℕ
-  pub many : ℕ
-  pub listed : Listed (λ k. not (get_or lanes k false || get_or rows k false))
-      (λ k. node_step 129 65 true false (get_or nodes k 0) k (table_at room k)) n 0 many steps
-  pub rows_are : Rows (ran steps 0 0 many (bit_at old)) new
+-- whether a list has the step of a node, by the holders that the node depends on
+abbrev pub chosen : Level → On → Bool
+chosen Outer on = not (on.lane || on.row)
+chosen Across on = not on.lane
+chosen Board on = not on.row
+chosen Row on = on.row
 
--- the three lists of steps: across from place 0 on, of the board from place 64 on, of a row from place 128 on
-pub record ThreeLists (nodes : List ℕ) (lanes rows outer : List Bool) (room n p q r : ℕ) (steps : List ℕ) : Type 0 where
-  pub across : Listed (λ k. same_as false (get_or lanes k false))
-      (λ k. node_step 65 129 (get_or rows k false) (get_or outer k false) (get_or nodes k 0) k (table_at room k)) n 0 p steps
-  pub board : Listed (λ k. same_as false (get_or rows k false))
-      (λ k. node_step 1 129 (get_or lanes k false) (get_or outer k false) (get_or nodes k 0) k (table_at room k)) n 64 q steps
-  pub row : Listed (λ k. same_as true (get_or rows k false))
-      (λ k. node_step 1 65 (get_or lanes k false) (get_or rows k false) (get_or nodes k 0) k (table_at room k)) n 128 r steps
+abbrev pub way_of : Level → On → Way
+way_of Outer on = record { own = 129; from = 65; differ = true; indexed = false }
+way_of Across on = record { own = 65; from = 129; differ = on.row; indexed = on.outer }
+way_of Board on = record { own = 1; from = 129; differ = on.lane; indexed = on.outer }
+way_of Row on = record { own = 1; from = 65; differ = on.lane; indexed = on.row }
+
+-- the step of node k
+abbrev pub made_by : Way → List ℕ → ℕ → ℕ → ℕ
+made_by w nodes room k = node_step w.own w.from w.differ w.indexed (get_or nodes k 0) k (table_at room k)
+
+-- the list for the first n nodes
+abbrev pub level_steps : Level → List ℕ → Marks → ℕ → ℕ → List ℕ
+level_steps l nodes m room n = steps_of (λ k. chosen l (marks_at m k)) (λ k. made_by (way_of l (marks_at m k)) nodes room k) n

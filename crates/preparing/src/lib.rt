@@ -6,86 +6,79 @@ ghost use Rattle.policy.specs.Rules.{lists_of, nodes_of};
 ghost use Rattle.dependence.specs.Depends.{Depends};
 ghost use Rattle.prepared.specs.Prepared.{room_of, Prepared};
 
-mod levels;
 mod steps;
 
 use bitsets::store;
 use dependence::depends;
-use levels::{lists, outer_rows};
 use policy::Classes;
-use prepared::Plan;
-use tables::{fill_tables, larger, room_of};
+use prepared::{Plan, Roles};
+use steps::Level;
+use tables::{Layout, Marks};
 
-// Formula f is prepared, where it is known which of its nodes depend on each of the three holders.
-fn prepare_with(
-    classes: Classes,
-    nodes: &[u32],
-    f: usize,
-    n: usize,
-    lane: u8,
-    row: u8,
-    outer: u8,
-    onlane: &[bool],
-    onrow: &[bool],
-    onouter: &[bool],
-    area: &mut [u64],
-    steps: &mut [u64],
-) -> Plan
-    requires n_bound { (n ≤ 64) × (192 ≤ length steps.old) × (n ≤ length onlane.now) × (n ≤ length onrow.now) × (n ≤ length onouter.now) }
-    requires fact { (lane ≡ row → ⊥) × (lane ≡ outer → ⊥) × (row ≡ outer → ⊥) }
-    requires row_in_bounds { (4 * (193 + 64 * room_of (lists_of classes) row) ≤ length area.old) × (4 * (193 + 64 * room_of (lists_of classes) outer) ≤ length area.old) }
-    requires depends { Depends (λ k. get_or nodes.now (64 * f + k) 0) lane n onlane.now }
-    requires depends_2 { Depends (λ k. get_or nodes.now (64 * f + k) 0) row n onrow.now }
-    requires depends_3 { Depends (λ k. get_or nodes.now (64 * f + k) 0) outer n onouter.now }
-    ensures prepared { Prepared (lists_of classes) (nodes_of nodes.now f n) lane row outer result steps.new area.new }
-    ensures steps_len_unchanged { length steps.new ≡ length steps.old }
+// The 64 places of formula f, where its nodes stand first, as in rules.
+fn places_of(nodes: &[u32], f: usize) -> [u32; 64]
+    ensures { result ≡ nodes_of nodes.now f 64 }
+{
+    let mut places = [0; 64];
+    for (k, node) in places.iter_mut().enumerate() {
+        *node = formulas::node::at(nodes, f, k);
+    }
+    places
+}
+
+// Which of the n nodes of formula f depend on holder h.
+fn depending(nodes: &[u32], f: usize, n: usize, h: u8) -> [bool; 64]
+    requires { n ≤ 64 }
+    ensures { Depends (λ k. get_or (nodes_of nodes.now f n) k 0) h n result }
+{
+    let mut d = [false; 64];
+    depends(nodes, f, n, h as u32, &mut d);
+    d
+}
+
+// A formula is prepared by its nodes, where it is known which of them depend on each of the three holders.
+fn prepare_with(layout: &Layout, nodes: &[u32], marks: &Marks, area: &mut [u64]) -> Plan
+    requires few { length nodes.now ≤ 64 }
+    requires area_long { 4 * (193 + 64 * layout.now.room) ≤ length area.old }
+    requires on_lane { Depends (λ k. get_or nodes.now k 0) layout.now.roles.lane (length nodes.now) marks.now.lane }
+    requires on_row { Depends (λ k. get_or nodes.now k 0) layout.now.roles.row (length nodes.now) marks.now.row }
+    requires on_outer { Depends (λ k. get_or nodes.now k 0) layout.now.roles.outer (length nodes.now) marks.now.outer }
+    ensures prepared { Prepared (lists_of layout.now.classes) nodes.now layout.now.roles.lane layout.now.roles.row layout.now.roles.outer result area.new }
     ensures area_len_unchanged { length area.new ≡ length area.old }
 {
-    let rows = room_of(classes, row);
-    let outers = room_of(classes, outer);
-    let room = larger(rows, outers);
     store(area, 0, lanes::none());
-    fill_tables(
-        area, classes, lane, row, outer, rows, outers, nodes, f, n, onlane, onrow, onouter, room,
-    );
-    outer_rows(area, steps, nodes, f, n, onlane, onrow, room);
-    let m = lists(nodes, f, n, onlane, onrow, onouter, room, steps);
+    layout.fill_tables(area, nodes, marks);
+    Level::Outer.list(layout, nodes, marks).run(area, 0);
     Plan {
-        nodes: n,
-        rows,
-        outers,
-        across: m.across,
-        board: m.board,
-        row: m.row,
+        nodes: nodes.len(),
+        rows: layout.rows,
+        outers: layout.outers,
+        across: Level::Across.list(layout, nodes, marks),
+        board: Level::Board.list(layout, nodes, marks),
+        row: Level::Row.list(layout, nodes, marks),
     }
 }
 
-// Formula f, whose n nodes stand among the lent ones as in rules, is prepared for a lane holder, a row holder and an outer holder; 8 and 9 stand for none.
+// Formula f, whose n nodes stand among the lent ones as in rules, is prepared for a lane holder, a row holder and an outer holder.
 pub fn prepare(
     classes: Classes,
     nodes: &[u32],
     f: usize,
     n: usize,
-    lane: u8,
-    row: u8,
-    outer: u8,
+    roles: Roles,
     area: &mut [u64],
-    steps: &mut [u64],
 ) -> Plan
-    requires n_bound { (n ≤ 64) × (192 ≤ length steps.old) }
-    requires fact { (lane ≡ row → ⊥) × (lane ≡ outer → ⊥) × (row ≡ outer → ⊥) }
-    requires row_in_bounds { (4 * (193 + 64 * room_of (lists_of classes) row) ≤ length area.old) × (4 * (193 + 64 * room_of (lists_of classes) outer) ≤ length area.old) }
-    ensures prepared { Prepared (lists_of classes) (nodes_of nodes.now f n) lane row outer result steps.new area.new }
-    ensures steps_len_unchanged { length steps.new ≡ length steps.old }
+    requires few { n ≤ 64 }
+    requires area_long { (4 * (193 + 64 * room_of (lists_of classes) roles.row) ≤ length area.old) × (4 * (193 + 64 * room_of (lists_of classes) roles.outer) ≤ length area.old) }
+    ensures prepared { Prepared (lists_of classes) (nodes_of nodes.now f n) roles.lane roles.row roles.outer result area.new }
     ensures area_len_unchanged { length area.new ≡ length area.old }
 {
-    let mut onlane: [bool; 64] = [false; 64];
-    let mut onrow: [bool; 64] = [false; 64];
-    let mut onouter: [bool; 64] = [false; 64];
-    depends(nodes, f, n, lane as u32, &mut onlane);
-    depends(nodes, f, n, row as u32, &mut onrow);
-    depends(nodes, f, n, outer as u32, &mut onouter);
-    prepare_with(
-        classes, nodes, f, n, lane, row, outer, &onlane, &onrow, &onouter, area, steps,
-    )
+    let layout = Layout::new(classes, roles);
+    let marks = Marks {
+        lane: depending(nodes, f, n, layout.roles.lane),
+        row: depending(nodes, f, n, layout.roles.row),
+        outer: depending(nodes, f, n, layout.roles.outer),
+    };
+    let places = places_of(nodes, f);
+    prepare_with(&layout, &places[..n], &marks, area)
 }

@@ -1,10 +1,35 @@
 // The steps of a formula's nodes, listed.
-ghost use Rattle.std.specs.Prelude.{◌≡◌, false, cond, ℕ, ◌+◌, ◌*◌, ◌≤◌, ◌<◌, length, get_or, set};
+ghost use Rattle.std.specs.Prelude.{◌≡◌, ◌+◌, ◌≤◌, ◌<◌, length};
 ghost use Rattle.policy.specs.Nodes.{op_of, first_of, second_of};
 ghost use Rattle.bitsets.specs.Steps.{step_of};
-ghost use Rattle.prepared.specs.Level.{ref_of, node_step, same_as, Listed};
+ghost use Rattle.prepared.specs.Level.{ref_of, node_step};
+ghost use Rattle.preparing.specs.Levels.{chosen, way_of, level_steps};
+
+use prepared::StepList;
+use tables::{Layout, Marks, On};
+
+// The four lists of steps: on the outer board those of nodes that depend on neither the lane holder nor the row holder, across those of nodes that don't
+// depend on the lane holder, and of the board and of a row those of nodes that don't, or do, depend on the row holder.
+#[derive(Clone, Copy)]
+pub(super) enum Level {
+    Outer,
+    Across,
+    Board,
+    Row,
+}
+
+// How the step of a node is made: the first row of the level's board, and of the board that has the row of a node whose bits don't differ; whether its bits
+// differ, and whether a comparison's row is told by the index.
+#[derive(Clone, Copy)]
+struct Way {
+    own: u64,
+    from: u64,
+    differ: bool,
+    indexed: bool,
+}
 
 // The row of node j, if it stands before node k, or row 0.
+#[tactic(auto, unfolding(prepared::specs::Level::ref_of))]
 fn row_of(own: u64, j: usize, k: usize) -> u64
     requires { (own + 64 ≤ 65536) × (k ≤ 64) }
     ensures { result ≡ ref_of own j k }
@@ -13,6 +38,7 @@ fn row_of(own: u64, j: usize, k: usize) -> u64
 }
 
 // The step as one number.
+#[tactic(auto, unfolding(bitsets::specs::Steps::step_of))]
 fn step(does: u64, row: u64, left: u64, right: u64) -> u64
     requires { (does < 7) × (row < 65536) × (left < 65536) × (right < 65536) }
     ensures { result ≡ step_of does row left right }
@@ -30,81 +56,84 @@ fn join_step(own: u64, node: u32, k: usize) -> u64
     step((node / 65536) as u64, own + k as u64, a, b)
 }
 
-// The step of node k.
-fn node_step(
-    own: u64,
-    from: u64,
-    differ: bool,
-    indexed: bool,
-    node: u32,
-    k: usize,
-    base: u64,
-) -> u64
-    requires { (k < 64) × (own + 64 ≤ 65536) × (from + 64 ≤ 65536) × (base < 65536) }
-    ensures { result ≡ node_step own from differ indexed node k base }
-{
-    let row = own + k as u64;
-    if !differ {
-        return step(5, row, from + k as u64, 0);
+impl Way {
+    // The step of node k, whose table begins at `base`.
+    #[tactic(auto, unfolding(prepared::specs::Level::node_step, policy::specs::Nodes::op_of))]
+    fn step(self, node: u32, k: usize, base: u64) -> u64
+        requires { (k < 64) × (self.own + 64 ≤ 65536) × (self.from + 64 ≤ 65536) × (base < 65536) }
+        ensures { result ≡ node_step self.own self.from self.differ self.indexed node k base }
+    {
+        let row = self.own + k as u64;
+        if !self.differ {
+            step(5, row, self.from + k as u64, 0)
+        } else if node / 65536 < 5 {
+            join_step(self.own, node, k)
+        } else if self.indexed {
+            step(6, row, base, 0)
+        } else {
+            step(4, row, base, base)
+        }
     }
-    if node / 65536 < 5 {
-        return join_step(own, node, k);
-    }
-    if indexed {
-        return step(6, row, base, 0);
-    }
-    step(4, row, base, base)
 }
 
-// Whether a flag is the one that is wanted.
-fn same(wanted: bool, flag: bool) -> bool
-    ensures { result ≡ same_as wanted flag }
-{
-    if wanted { flag } else { !flag }
-}
-
-// One step more after the first m, where it is asked for; how many they are then.
-fn add(steps: &mut [u64], first: usize, m: usize, s: u64, on: bool) -> usize
-    requires { first + m < length steps.old }
-    ensures steps_after { steps.new ≡ cond on (set steps.old (first + m) s) steps.old }
-    ensures value { result ≡ cond on (m + 1) m }
-{
-    if on {
-        steps[first + m] = s;
-        return m + 1;
+impl Level {
+    // Whether the list has a step for a node that depends on these holders.
+    fn chosen(self, on: On) -> bool
+        ensures { result ≡ chosen self on }
+    {
+        match self {
+            Level::Outer => !(on.lane || on.row),
+            Level::Across => !on.lane,
+            Level::Board => !on.row,
+            Level::Row => on.row,
+        }
     }
-    m
-}
 
-// The steps of those of the n nodes of formula f whose flag is the one that is wanted, from place `first` on; how many they are.
-pub(super) fn list(
-    nodes: &[u32],
-    f: usize,
-    n: usize,
-    flags: &[bool],
-    wanted: bool,
-    differ: &[bool],
-    indexed: &[bool],
-    bases: &[u64],
-    own: u64,
-    from: u64,
-    steps: &mut [u64],
-    first: usize,
-) -> usize
-    requires n_bound { (n ≤ 64) × (n ≤ length flags.now) × (n ≤ length differ.now) × (n ≤ length indexed.now) × (n ≤ length bases.now) × (first + n ≤ length steps.old) }
-    requires own_bound { (own + 64 ≤ 65536) × (from + 64 ≤ 65536) }
-    requires by_index { (k : ℕ) → k < n → get_or bases.now k 0 < 65536 }
-    ensures listed { Listed (λ k. same_as wanted (get_or flags.now k false)) (λ k. node_step own from (get_or differ.now k false) (get_or indexed.now k false) (get_or nodes.now (64 * f + k) 0) k (get_or bases.now k 0)) n first result steps.new }
-    ensures steps_len_unchanged { length steps.new ≡ length steps.old }
-    ensures by_index_2 { (j : ℕ) → j < first → get_or steps.new j 0 ≡ get_or steps.old j 0 }
-    ensures upper_bound { result ≤ n }
-{
-    let mut m: usize = 0;
-    for k in 0..n {
-        let node = formulas::node::at(nodes, f, k);
-        let s = node_step(own, from, differ[k], indexed[k], node, k, bases[k]);
-        let next = add(steps, first, m, s, same(wanted, flags[k]));
-        m = next;
+    // How that step is made.
+    fn way_of(self, on: On) -> Way
+        ensures value { result ≡ way_of self on }
+        ensures on_boards { (result.own + 64 ≤ 193) × (result.from + 64 ≤ 193) }
+    {
+        match self {
+            Level::Outer => Way {
+                own: 129,
+                from: 65,
+                differ: true,
+                indexed: false,
+            },
+            Level::Across => Way {
+                own: 65,
+                from: 129,
+                differ: on.row,
+                indexed: on.outer,
+            },
+            Level::Board => Way {
+                own: 1,
+                from: 129,
+                differ: on.lane,
+                indexed: on.outer,
+            },
+            Level::Row => Way {
+                own: 1,
+                from: 65,
+                differ: on.lane,
+                indexed: on.row,
+            },
+        }
     }
-    m
+
+    // The list.
+    pub(super) fn list(self, layout: &Layout, nodes: &[u32], marks: &Marks) -> StepList
+        requires { length nodes.now ≤ 64 }
+        ensures { result ≡ level_steps self nodes.now marks.now layout.now.room (length nodes.now) }
+    {
+        let mut list = StepList::new();
+        for (k, node) in nodes.iter().enumerate() {
+            let on = marks.at(k);
+            if self.chosen(on) {
+                list.push(self.way_of(on).step(*node, k, layout.table_at(k) as u64));
+            }
+        }
+        list
+    }
 }

@@ -2,10 +2,11 @@
 #![tactic(auto)]
 
 ghost use Rattle.std.specs.Prelude.{◌≡◌, ◌<◌, length};
-ghost use Rattle.analyser.specs.Told.{told_of};
+ghost use Rattle.analyser.specs.Told.{told_of, rows_of};
 ghost use Rattle.program.specs.Program.{ProgramMeans, largest_input};
 
-use analyser::{Answer, Verdict, analyse};
+use analyser::{Answer, analyse};
+use refusal::Refusal;
 use replay::question::Question;
 
 // Room for an input: more bytes than a question and the largest rule file have.
@@ -17,16 +18,11 @@ pub fn input_buffer() -> [u8; 4096]
 }
 
 // Answers an input: its first three bytes are the question, and the rest is the file. Fewer than three bytes get 1, and then `rows` is as it was.
-pub fn answer_of(input: &[u8], rows: &mut [u64]) -> Answer
-    ensures { ProgramMeans input.now rows.old rows.new (told_of result.verdict result.pairs result.values) result.rows }
+pub fn answer_of(input: &[u8], rows: &mut [u64]) -> Result<Answer, Refusal>
+    ensures { ProgramMeans input.now rows.old rows.new (told_of result) (rows_of result) }
 {
     if input.len() < Question::BYTES {
-        return Answer {
-            verdict: Verdict::Refused(1),
-            pairs: 0,
-            values: 0,
-            rows: 0,
-        };
+        return Err(Refusal::EndsEarly);
     }
-    analyse(&input[Question::BYTES..], &input[0..Question::BYTES], rows)
+    analyse(&input[Question::BYTES..], &input[..Question::BYTES], rows)
 }

@@ -1,16 +1,16 @@
--- Where no number was given, the lists that were read are as long as the head says. In order: what holds of every value that a format reads, by each
+-- The lists that were read are as long as the head says. In order: what holds of every value that a format reads, by each
 -- way of building one; the rule file's lists.
 use mathlib.Core.Path.{◌≡◌, sym, ap, subst, ◌∙◌}
 use mathlib.Core.Bool.{Bool}
 use mathlib.Core.List.{List, [], ◌∷◌, ◌++◌}
-use Prim.Native.Nat.{ℕ, zero, suc, ◌+◌, ◌<◌}
-use native.Mathlib.Decide.{dec_lt}
+use Prim.Native.Nat.{ℕ, zero, suc, ◌+◌}
 use native.Mathlib.Omega.{arith}
 use lib.ListN.{length, length-append}
-use Rattle.format.specs.Format.{ok, bad, Format, tested, check, rows_read, rows, pair, via}
-use Rattle.format.specs.Steps.{from, res_of}
-use Rattle.format.specs.declared.Cursor.{Cursor}
-use Rattle.format.proofs.Chain.{from-good, from-bad, res-good, res-any}
+use Rattle.format.specs.Format.{ok, Format, tested, check, rows_read, rows, pair, via}
+use Rattle.std.specs.Prelude.{Ok}
+use Rattle.format.specs.Reads.{Reads}
+use Rattle.format.specs.declared.file_reader.FileReader.{FileReader}
+use Rattle.format.proofs.Chain.{shown}
 use Rattle.format.proofs.Fault.{then_ok, tested-ok}
 use Rattle.policy.specs.Policy.{Head, Lists, Policy}
 use Rattle.policy.specs.File.{class_format, lists_format, policy_format}
@@ -28,17 +28,6 @@ same-value : {A : Type 0} (a b : A) (p q : ℕ) → ok a p ≡ ok b q → a ≡ 
 same-value a b p q e = cc
 
 module _ {A : Type 0} where
-  -- at a cursor without a number
-  only-good : (f : Format A) (P : A → Type 0) (s : List ℕ) (c₀ c : Cursor) (a : A) → Only f P → res_of c a ≡ from c₀ (f.read s) → c.number ≡ 0 → P a
-  only-good f P s c₀ c a o e z = go (dec_lt 0 c₀.number)
-    where
-      go : Dec (0 < c₀.number) → P a
-      go (yes h) =
-          let x : ok a c.pos ≡ bad c₀.number c₀.pos = sym (res-good c a z) ∙ e ∙ from-bad c₀ (f.read s) h in
-          let y : ◌≡◌ {A = ℕ} 0 1 = cc in
-          absurd (omega arith)
-      go (no h) = o.has s c₀.pos a c.pos (sym (from-good c₀ (f.read s) (omega arith)) ∙ sym e ∙ res-good c a z)
-
   only-any : (f : Format A) → Only f (λ _. Unit {0})
   only-any f = record { has = λ s pos a q e. tt }
 
@@ -128,11 +117,7 @@ module _ (h : Counts) (r : Rules) (users : r.users.count ≡ h.users) (sessions 
       let ei : r.classes.item.count ≡ h.item = sym (attrs-length r.classes.item) ∙ l.item in
       cc
 
-  -- the counts that the rules keep are the head's, or don't matter
-  pub read-counted : (s : List ℕ) (c₀ c : Cursor) → res_of c (under_head h r) ≡ from c₀ (policy_format.read s) → res_of c (policy_of r) ≡ from c₀ (policy_format.read s)
+  -- the counts that the rules keep are the head's
+  pub read-counted : {old new : FileReader} (most : ℕ) → Reads policy_format most (under_head h) old new (Ok r) → Reads policy_format most policy_of old new (Ok r)
   unfolding under_head
-  read-counted s c₀ c e = go (dec_lt 0 c.number)
-    where
-      go : Dec (0 < c.number) → res_of c (policy_of r) ≡ from c₀ (policy_format.read s)
-      go (yes n) = res-any c (policy_of r) (under_head h r) n ∙ e
-      go (no n) = ap (λ (p : Policy). res_of c p) (counted (only-good policy_format _ s c₀ c (under_head h r) only-policy e (omega arith))) ∙ e
+  read-counted most e = shown r most e (sym (counted (only-policy.has _ _ _ _ (sym e.answer)))) (omega arith)

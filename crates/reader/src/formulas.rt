@@ -1,77 +1,55 @@
 // The formulas.
 ghost use Rattle.std.specs.Prelude.{◌≡◌, ◌+◌, ◌^◌, ◌≤◌, ◌<◌, length};
-ghost use Rattle.format.specs.Format.{Format, rows};
-ghost use Rattle.format.specs.Steps.{from, res_of, CountIsPlace};
+ghost use Rattle.format.specs.Format.{rows};
+ghost use Rattle.format.specs.Reads.{Reads};
 ghost use Rattle.policy.specs.File.{node_format, formula_format};
-ghost use Rattle.policy.specs.Rules.{lists_of, nodes_of, formulas_of};
-ghost use Rattle.reader.specs.Parts.{Earlier};
+ghost use Rattle.policy.specs.Rules.{lists_of, formulas_of};
 
-use super::FormulasRead;
-use format::{Cursor, Taken, judged, read_field, take};
+use format::file_reader::FileReader;
 use policy::Classes;
-use policy::nodes::node_fault;
+use policy::nodes::check_node;
+use refusal::Refusal;
 
 // Node i of formula f.
-fn read_node(s: &[u8], at: Cursor, classes: Classes, f: usize, i: usize) -> Taken
-    requires { (at.pos < 2 ^ 39) × CountIsPlace s.now at }
-    ensures value_value { res_of result.at result.value ≡ from at ((node_format (lists_of classes) f i).read s.now) }
-    ensures pos_bound { (result.at.pos ≤ at.pos + 20) × (result.value < 2 ^ 20) }
-    ensures count_is_place { CountIsPlace s.now result.at }
+fn read_node(reader: &mut FileReader, classes: Classes, f: usize, i: usize) -> Result<u32, Refusal>
+    requires { reader.old.bits.at < 2 ^ 39 }
+    ensures reads { Reads (node_format (lists_of classes) f i) 20 (λ x. x) reader.old reader.new result }
 {
-    let t = take(s, at, 20);
-    let x = t.value as u32;
-    let n = node_fault(classes, f, i, x);
-    let next = judged(t.at, n == 0, n);
-    Taken {
-        at: next,
-        value: t.value,
-    }
+    let node = reader.take(20)? as u32;
+    check_node(classes, f, i, node)?;
+    Ok(node)
 }
 
-// The n nodes of formula f, stored at its places.
+// The nodes of formula f, as many as there are places for them.
 fn read_nodes(
-    s: &[u8],
-    at: Cursor,
+    reader: &mut FileReader,
     classes: Classes,
     f: usize,
-    n: usize,
     nodes: &mut [u32],
-) -> Cursor
-    requires { (n ≤ 64) × (f < 12) × (length nodes.old ≡ 768) × (at.pos < 2 ^ 37) × CountIsPlace s.now at }
-    ensures n_after { res_of result (nodes_of nodes.new f n) ≡ from at ((rows n (λ l. node_format (lists_of classes) f (length l))).read s.now) }
-    ensures earlier { Earlier nodes.old nodes.new f }
-    ensures pos_bound { result.pos ≤ at.pos + 1280 }
-    ensures count_is_place { CountIsPlace s.now result }
+) -> Result<(), Refusal>
+    requires { (length nodes.old ≤ 64) × (reader.old.bits.at < 2 ^ 37) }
+    ensures reads { Reads (rows (length nodes.old) (λ l. node_format (lists_of classes) f (length l))) 1280 (λ _. nodes.new) reader.old reader.new result }
 {
-    let mut p = at;
-    for i in 0..n {
-        let t = read_node(s, p, classes, f, i);
-        nodes[64 * f + i] = t.value as u32;
-        let next = t.at;
-        p = next;
+    for (i, node) in nodes.iter_mut().enumerate() {
+        *node = read_node(reader, classes, f, i)?;
     }
-    p
+    Ok(())
 }
 
-// The formulas: four, and one for each permission.
-pub(super) fn read_formulas(s: &[u8], at: Cursor, classes: Classes, permissions: u8) -> FormulasRead
-    requires { (permissions ≤ 8) × (at.pos < 2 ^ 36) × CountIsPlace s.now at }
-    ensures permissions_value { res_of result.at (formulas_of result.nodes result.lengths (4 + permissions)) ≡ from at ((rows (4 + permissions) (λ l. formula_format (lists_of classes) (length l))).read s.now) }
-    ensures pos_bound { result.at.pos ≤ at.pos + 15456 }
-    ensures count_is_place { CountIsPlace s.now result.at }
+// The formulas, as many as there are places for their lengths; formula f has 64 places for its nodes.
+pub(super) fn read_formulas(
+    reader: &mut FileReader,
+    classes: Classes,
+    lengths: &mut [u8],
+    nodes: &mut [u32],
+) -> Result<(), Refusal>
+    requires { (length lengths.old ≤ 12) × (length nodes.old ≡ 768) × (reader.old.bits.at < 2 ^ 36) }
+    ensures reads { Reads (rows (length lengths.old) (λ l. formula_format (lists_of classes) (length l))) 15456 (λ _. formulas_of nodes.new lengths.new (length lengths.old)) reader.old reader.new result }
 {
-    let mut lengths: [u8; 12] = [0; 12];
-    let mut nodes: [u32; 768] = [0; 768];
-    let mut p = at;
-    for f in 0..4 + permissions as usize {
-        let n = read_field(s, p, 8, 1, 65, 8);
-        let next = read_nodes(s, n.at, classes, f, n.value as usize, &mut nodes);
-        lengths[f] = n.value as u8;
-        p = next;
+    for (f, length) in lengths.iter_mut().enumerate() {
+        let n = reader.field(8, 1, 65, Refusal::Node)?;
+        read_nodes(reader, classes, f, &mut nodes[64 * f..64 * f + n as usize])?;
+        *length = n as u8;
     }
-    FormulasRead {
-        at: p,
-        lengths,
-        nodes,
-    }
+    Ok(())
 }

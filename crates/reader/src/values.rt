@@ -1,101 +1,70 @@
 // The values of holders, and the starting sessions.
-ghost use Rattle.std.specs.Prelude.{◌≡◌, ◌+◌, ◌^◌, ◌≤◌, ◌<◌};
-ghost use Rattle.format.specs.Format.{Format, rows};
-ghost use Rattle.format.specs.Steps.{from, res_of, CountIsPlace};
+ghost use Rattle.std.specs.Prelude.{◌≡◌, ◌^◌, ◌≤◌, ◌<◌, IfOk};
+ghost use Rattle.format.specs.Format.{rows};
+ghost use Rattle.format.specs.Reads.{Reads};
 ghost use Rattle.policy.specs.File.{value_format, session_format};
-ghost use Rattle.policy.specs.Rules.{attrs_of, values_of, sessions_of};
+ghost use Rattle.policy.specs.Rules.{attrs_of, values_of, as_session, sessions_of};
 ghost use Rattle.reader_head.specs.Parts.{Narrow};
-ghost use Rattle.reader.specs.Parts.{session_of};
 
-use super::{SessionRead, SessionsRead, ValuesRead};
-use format::{Cursor, Taken, judged, read_field, take};
-use policy::shape::{bits_for, code_ok};
-use policy::{Class, Sessions, Values};
+use format::file_reader::FileReader;
+use policy::{Class, Session, Sessions, Values};
+use refusal::Refusal;
 
 // A holder's value: its attributes' values side by side. The format's last field, of no bits, is there wherever the place is within the bytes.
-fn read_value(s: &[u8], at: Cursor, class: Class) -> Taken
-    requires { (at.pos < 2 ^ 38) × Narrow class × CountIsPlace s.now at }
-    ensures value_value { res_of result.at result.value ≡ from at ((value_format (attrs_of class)).read s.now) }
-    ensures pos_bound { (result.at.pos ≤ at.pos + 8) × (result.value < 256) }
-    ensures count_is_place { CountIsPlace s.now result.at }
+fn read_value(reader: &mut FileReader, class: Class) -> Result<u8, Refusal>
+    requires { (reader.old.bits.at < 2 ^ 38) × Narrow class }
+    ensures reads { Reads (value_format (attrs_of class)) 8 (λ x. x) reader.old reader.new result }
 {
-    let kinds = class.kinds;
-    let sizes = class.sizes;
-    let mut v: u64 = 0;
-    let mut p = at;
+    let mut value: u64 = 0;
     for i in 0..class.count as usize {
-        let kind = kinds[i];
-        let size = sizes[i];
-        let w = bits_for(kind, size);
-        let t = take(s, p, w as usize);
-        let x = t.value;
-        let next = judged(t.at, code_ok(kind, size, x), 6);
-        v = (v << w) + x;
-        p = next;
+        let attribute = class.attribute(i);
+        let w = attribute.bits();
+        let x = reader.take(w as usize)?;
+        if !attribute.holds_code(x) {
+            return Err(Refusal::Code);
+        }
+        value = (value << w) + x;
     }
-    Taken { at: p, value: v }
+    Ok(value as u8)
 }
 
 // The values of n holders of a class.
-pub(super) fn read_values(s: &[u8], at: Cursor, class: Class, n: u8) -> ValuesRead
-    requires { (n ≤ 32) × (at.pos < 2 ^ 37) × Narrow class × CountIsPlace s.now at }
-    ensures values_value { res_of result.at (values_of result.values) ≡ from at ((rows n (λ _. value_format (attrs_of class))).read s.now) }
-    ensures pos_bound { (result.at.pos ≤ at.pos + 256) × (result.values.count ≡ n) }
-    ensures count_is_place { CountIsPlace s.now result.at }
+pub(super) fn read_values(reader: &mut FileReader, class: Class, n: u8) -> Result<Values, Refusal>
+    requires { (n ≤ 32) × (reader.old.bits.at < 2 ^ 37) × Narrow class }
+    ensures reads { Reads (rows n (λ _. value_format (attrs_of class))) 256 values_of reader.old reader.new result }
+    ensures all { IfOk result (λ values. values.count ≡ n) }
 {
-    let mut list: [u8; 32] = [0; 32];
-    let mut p = at;
-    for i in 0..n as usize {
-        let t = read_value(s, p, class);
-        list[i] = t.value as u8;
-        let next = t.at;
-        p = next;
+    let mut values: [u8; 32] = [0; 32];
+    for value in &mut values[..n as usize] {
+        *value = read_value(reader, class)?;
     }
-    let values = Values {
-        count: n,
-        values: list,
-    };
-    ValuesRead { at: p, values }
+    Ok(Values { count: n, values })
 }
 
 // A starting session: its user, one of so many, and its value.
-fn read_session(s: &[u8], at: Cursor, class: Class, users: u8) -> SessionRead
-    requires { (at.pos < 2 ^ 37) × Narrow class × CountIsPlace s.now at }
-    ensures result_value { res_of result.at (session_of result) ≡ from at ((session_format users (attrs_of class)).read s.now) }
-    ensures pos_bound { result.at.pos ≤ at.pos + 12 }
-    ensures count_is_place { CountIsPlace s.now result.at }
+fn read_session(reader: &mut FileReader, class: Class, users: u8) -> Result<Session, Refusal>
+    requires { (reader.old.bits.at < 2 ^ 37) × Narrow class }
+    ensures reads { Reads (session_format users (attrs_of class)) 12 as_session reader.old reader.new result }
 {
-    let u = read_field(s, at, 4, 0, users as u64, 7);
-    let t = read_value(s, u.at, class);
-    let next = t.at;
-    SessionRead {
-        at: next,
-        user: u.value as u8,
-        value: t.value as u8,
-    }
+    let user = reader.field(4, 0, users as u64, Refusal::User)? as u8;
+    let value = read_value(reader, class)?;
+    Ok(Session { user, value })
 }
 
 // The n starting sessions.
-pub(super) fn read_sessions(s: &[u8], at: Cursor, class: Class, users: u8, n: u8) -> SessionsRead
-    requires { (n ≤ 32) × (at.pos < 2 ^ 36) × Narrow class × CountIsPlace s.now at }
-    ensures sessions_value { res_of result.at (sessions_of result.sessions) ≡ from at ((rows n (λ _. session_format users (attrs_of class))).read s.now) }
-    ensures pos_bound { (result.at.pos ≤ at.pos + 384) × (result.sessions.count ≡ n) }
-    ensures count_is_place { CountIsPlace s.now result.at }
+pub(super) fn read_sessions(
+    reader: &mut FileReader,
+    class: Class,
+    user_count: u8,
+    n: u8,
+) -> Result<Sessions, Refusal>
+    requires { (n ≤ 32) × (reader.old.bits.at < 2 ^ 36) × Narrow class }
+    ensures reads { Reads (rows n (λ _. session_format user_count (attrs_of class))) 384 sessions_of reader.old reader.new result }
+    ensures all { IfOk result (λ sessions. sessions.count ≡ n) }
 {
-    let mut list: [u8; 32] = [0; 32];
-    let mut values: [u8; 32] = [0; 32];
-    let mut p = at;
-    for i in 0..n as usize {
-        let t = read_session(s, p, class, users);
-        list[i] = t.user;
-        values[i] = t.value;
-        let next = t.at;
-        p = next;
+    let mut sessions = [Session::NONE; 32];
+    for session in &mut sessions[..n as usize] {
+        *session = read_session(reader, class, user_count)?;
     }
-    let sessions = Sessions {
-        count: n,
-        users: list,
-        values,
-    };
-    SessionsRead { at: p, sessions }
+    Ok(Sessions { count: n, sessions })
 }

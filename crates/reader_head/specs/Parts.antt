@@ -1,12 +1,11 @@
 -- What the parts of the reader say of the head and the lists of attributes that they read. The promises of the published calls do not cite this file.
 -- Assumes nothing.
 use Rattle.std.specs.Prelude.{◌≤◌}
-use Rattle.policy.specs.Policy.{Head, Attr, width}
+use Rattle.policy.specs.Policy.{Head, width}
 use Rattle.policy.specs.Rules.{attrs_of}
 use Rattle.policy.specs.declared.Class.{Class}
 use Rattle.policy.specs.declared.Classes.{Classes}
 use Rattle.reader_head.specs.declared.Counts.{Counts}
-use Rattle.reader_head.specs.declared.Attribute.{Attribute}
 
 -- the head of some counts
 unfoldable pub head_of : Counts → Head
@@ -20,20 +19,6 @@ head_of c =
       items = c.items;
       permissions = c.permissions;
     }
-
--- the attribute that was read
-unfoldable pub attr_of : Attribute → Attr
-attr_of a = record { kind = a.kind; size = a.size; list = a.list }
-
--- counts are within their ranges
-pub record Ranges (c : Counts) : Type 0 where
-  pub user : c.user ≤ 8
-  pub session : c.session ≤ 8
-  pub item : c.item ≤ 8
-  pub users : c.users ≤ 16
-  pub sessions : c.sessions ≤ 32
-  pub items : c.items ≤ 32
-  pub permissions : c.permissions ≤ 8
 
 -- a class has at most 8 attributes and is at most 8 bits wide
 pub record Narrow (c : Class) : Type 0 where

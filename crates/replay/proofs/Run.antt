@@ -36,7 +36,7 @@ use Rattle.replay.specs.Replay.{is_of, who_fits, which_fits, step_fits, last_fit
 use Rattle.replay.specs.Claims.{Enough, NumbersLeft, AskedLeak, ReplayIsTheRun}
 use Rattle.replay.specs.declared.question.Question.{Question}
 use Rattle.replay.proofs.Asked.{asks-asked, asked-asks, of_parts}
-use Rattle.replay.proofs.Laws.{none-fits, last-is, replay-shown}
+use Rattle.replay.proofs.Laws.{none_fits, last_is, replay-shown}
 use Rattle.replay.proofs.Room.{Ample, ample-room, ample-after, rows_start, rows-ample}
 
 -- what fits
@@ -114,7 +114,7 @@ last_row : (m : Model) (s : Lent) (q : Question) (rows before : List ℕ) (last 
 last_row m s q rows before last e =
     let n : length rows ≡ length before + 1 = ap length e ∙ length-append before (last ∷ []) in
     let i : length rows - 1 ≡ length before = omega arith in
-    sym (last-is m s q rows (omega arith))
+    sym (last_is m s q rows (omega arith))
     ∙ ap (λ (x : ℕ). step_fits m s q (row_step x)) (ap (λ (k : ℕ). get_or rows k 0) i ∙ ap (λ (l : List ℕ). get_or l (length before) 0) e ∙ get_or-append_seam before last [] 0)
 
 -- rows
@@ -245,7 +245,7 @@ module _ (file : List ℕ) (p : Policy) (read : reading file ≡ rules p) (quest
 
   leak-shown : (l : List ℕ) → Codes (model_of p) s (beginning p) → (rows_in (model_of p) s 0 l).refusal ≡ none
       → last_fits (model_of p) (rows_in (model_of p) s 0 l).lent q l ≡ true → Leaks l
-  leak-shown [] c d f = absurd (let z : false ≡ true = none-fits (model_of p) (rows_in (model_of p) s 0 []).lent q [] refl ∙ f in let y : ◌≡◌ {A = ℕ} 0 1 = cc in omega arith)
+  leak-shown [] c d f = absurd (let z : false ≡ true = none_fits (model_of p) (rows_in (model_of p) s 0 []).lent q [] refl ∙ f in let y : ◌≡◌ {A = ℕ} 0 1 = cc in omega arith)
   leak-shown (row ∷ l) c d f =
       let r = told (model_of p) (files-are-bytes file p read) row l s (beginning p) c 0 d in
       let u = (rows_in (model_of p) s 0 (row ∷ l)).lent in

@@ -1,10 +1,14 @@
 -- The question, computed [01:The question 1]: three bytes. Who kind (2 bits), who number (6), item kind (1), spare (1), item number (6), permission (4),
 -- spare (4). What names something absent or breaks the layout asks nothing, and gets 10.
 -- Assumes nothing.
-use Rattle.std.specs.Prelude.{Bool, ◌&&◌, cond, List, ℕ, ◌+◌, ◌/◌, ◌%◌, ltb, eqb, length, get_or}
+use Rattle.std.specs.Prelude.{Bool, ◌&&◌, cond, List, ℕ, ◌+◌, ◌/◌, ◌%◌, ltb, eqb, length, get_or, Option, Some, None}
 use Rattle.policy.specs.Policy.{Policy}
 use Rattle.runs.specs.Grant.{Who, session, user, anyone, Which, item, anything}
 use Rattle.replay.specs.declared.question.Question.{Question}
+use Rattle.replay.specs.declared.question.Who.{Who as AskedWho}
+use Rattle.replay.specs.declared.question.Who.TheVariants as Who
+use Rattle.replay.specs.declared.question.Which.{Which as AskedItem}
+use Rattle.replay.specs.declared.question.Which.TheVariants as Which
 
 -- the parts of three bytes
 unfoldable pub parts_of : List ℕ → Question
@@ -20,6 +24,14 @@ parts_of q =
       permission = c / 16;
       spares = b / 64 % 2 + c % 16;
     }
+
+-- who is asked about as the program reads it: nothing where the kind is unknown
+abbrev pub asked_who : Question → Option AskedWho
+asked_who q = cond (eqb q.whokind 0) (Some (Who.Session q.who)) (cond (eqb q.whokind 1) (Some (Who.User q.who)) (cond (eqb q.whokind 2) (Some Who.Anyone) None))
+
+-- which item is asked about as the program reads it
+abbrev pub asked_item : Question → Option AskedItem
+asked_item q = cond (eqb q.itemkind 0) (Some (Which.Item q.item)) (cond (eqb q.itemkind 1) (Some Which.Anything) None)
 
 -- who is asked about: unused numbers are zero
 unfoldable pub who_of : Question → Who

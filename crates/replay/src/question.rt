@@ -1,10 +1,25 @@
 // The question: three bytes.
 ghost use Rattle.std.specs.Prelude.{◌≡◌};
 ghost use Rattle.policy.specs.Rules.{policy_of};
-ghost use Rattle.replay.specs.Question.{parts_of, who_among, which_among, asks as asks_of};
+ghost use Rattle.replay.specs.Question.{parts_of, asked_who, asked_item, who_among, which_among, asks as asks_of};
 
+use bits::get_or;
 use policy::Rules;
-use policy::shape::byte_at;
+
+// Who is asked about: a starting session, a user's sessions, or any session.
+#[derive(Clone, Copy, Debug, PartialEq, Eq)]
+pub enum Who {
+    Session(u8),
+    User(u8),
+    Anyone,
+}
+
+// Which item is asked about: a starting item, or any.
+#[derive(Clone, Copy, Debug, PartialEq, Eq)]
+pub enum Which {
+    Item(u8),
+    Anything,
+}
 
 // The parts of a question, any numbers; the two spare fields are added up.
 #[derive(Clone, Copy)]
@@ -52,12 +67,13 @@ impl Question {
     pub const ANYTHING: u8 = 1;
 
     // The parts of the bytes; those past the end count as 0.
+    #[tactic(auto, unfolding(crate::specs::Question::parts_of))]
     pub fn of(bytes: &[u8]) -> Self
         ensures { result ≡ parts_of bytes.now }
     {
-        let a = byte_at(bytes, 0);
-        let b = byte_at(bytes, 1);
-        let c = byte_at(bytes, 2);
+        let a = get_or(bytes, 0, 0);
+        let b = get_or(bytes, 1, 0);
+        let c = get_or(bytes, 2, 0);
         Self {
             whokind: a >> Self::WHO_BITS,
             who: a % Self::WHOS,
@@ -67,55 +83,65 @@ impl Question {
             spares: (b >> Self::ITEM_BITS) % 2 + c % Self::SPARES,
         }
     }
+
+    // Who is asked about, or nothing, where the kind is unknown.
+    pub fn asked_who(self) -> Option<Who>
+        ensures { result ≡ asked_who self }
+    {
+        match self.whokind {
+            Self::SESSION => Some(Who::Session(self.who)),
+            Self::USER => Some(Who::User(self.who)),
+            Self::ANYONE => Some(Who::Anyone),
+            _ => None,
+        }
+    }
+
+    // Which item is asked about, or nothing, where the kind is unknown.
+    pub fn asked_item(self) -> Option<Which>
+        ensures { result ≡ asked_item self }
+    {
+        match self.itemkind {
+            Self::ITEM => Some(Which::Item(self.item)),
+            Self::ANYTHING => Some(Which::Anything),
+            _ => None,
+        }
+    }
 }
 
-// Whether who is asked about is there.
+// Whether who is asked about is there, among so many starting sessions and users.
+#[tactic(auto, unfolding(crate::specs::Question::who_among))]
 fn who_there(sessions: u8, users: u8, q: Question) -> bool
     ensures { result ≡ who_among sessions users q }
 {
-    if q.whokind == Question::SESSION {
-        return q.who < sessions;
-    }
-    if q.whokind == Question::USER {
-        return q.who < users;
-    }
-    if q.whokind == Question::ANYONE {
-        q.who == 0
-    } else {
-        false
+    match q.asked_who() {
+        Some(Who::Session(session)) => session < sessions,
+        Some(Who::User(user)) => user < users,
+        Some(Who::Anyone) => q.who == 0,
+        None => false,
     }
 }
 
-// Whether the item that is asked about is there.
+// Whether the item that is asked about is there, among so many starting ones.
+#[tactic(auto, unfolding(crate::specs::Question::which_among))]
 fn which_there(items: u8, q: Question) -> bool
     ensures { result ≡ which_among items q }
 {
-    if q.itemkind == Question::ITEM {
-        return q.item < items;
-    }
-    if q.itemkind == Question::ANYTHING {
-        q.item == 0
-    } else {
-        false
+    match q.asked_item() {
+        Some(Which::Item(item)) => item < items,
+        Some(Which::Anything) => q.item == 0,
+        None => false,
     }
 }
 
 // Whether the bytes ask something of the rules: three of them, of the layout, and naming what is there.
+#[tactic(auto, using(policy::proofs::Laws::values_length, starting::proofs::StartLaws::sessions_length), unfolding(crate::specs::Question::asks, crate::specs::Question::parts_ask, policy::specs::Rules::policy_of))]
 pub fn asks(rules: Rules, bytes: &[u8]) -> bool
     ensures { result ≡ asks_of (policy_of rules) bytes.now }
 {
-    if bytes.len() != Question::BYTES {
-        return false;
-    }
     let q = Question::of(bytes);
-    if q.spares != 0 {
-        return false;
-    }
-    if !who_there(rules.sessions.count, rules.users.count, q) {
-        return false;
-    }
-    if !which_there(rules.items.count, q) {
-        return false;
-    }
-    q.permission < rules.permissions
+    bytes.len() == Question::BYTES
+        && q.spares == 0
+        && who_there(rules.sessions.count, rules.users.count, q)
+        && which_there(rules.items.count, q)
+        && q.permission < rules.permissions
 }

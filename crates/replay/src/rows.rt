@@ -5,19 +5,21 @@ ghost use Rattle.allowed.specs.Allowed.{model_of};
 ghost use Rattle.live.specs.Lent.{lent_as, refusal_of};
 ghost use Rattle.replay.specs.Rows.{rows_in};
 
-use live::{Next, Outcome};
+use live::Next;
 use monitor::step_at;
 use policy::Rules;
+use refusal::Refusal;
 
 // How rows came out: carried out, or the number of the first that was not; the next numbers; how many were carried out.
 #[derive(Clone, Copy)]
 pub struct Steps {
-    pub outcome: Outcome,
+    pub outcome: Result<(), Refusal>,
     pub next: Next,
     pub count: usize,
 }
 
 // Carries out rows, up to the first that is refused.
+#[tactic(auto, using(crate::proofs::Laws::row_next, crate::proofs::Laws::rows_all), unfolding(crate::specs::Rows::further))]
 pub fn steps_at(
     rules: Rules,
     sessions: &mut [u64],
@@ -28,15 +30,14 @@ pub fn steps_at(
     ensures { record { refusal = refusal_of result.outcome; lent = lent_as sessions.new items.new result.next; count = result.count } ≡ rows_in (model_of (policy_of rules)) (lent_as sessions.old items.old next) 0 rows.now }
 {
     let mut at = next;
-    for i in 0..rows.len() {
-        let s = step_at(rules, sessions, items, at, rows[i]);
-        let outcome = s.outcome;
-        at = s.next;
-        match outcome {
-            Outcome::Done => {}
-            Outcome::Refused(n) => {
+    for (i, row) in rows.iter().enumerate() {
+        match step_at(rules, sessions, items, at, *row) {
+            Ok(after) => {
+                at = after;
+            }
+            Err(refusal) => {
                 return Steps {
-                    outcome: Outcome::Refused(n),
+                    outcome: Err(refusal),
                     next: at,
                     count: i,
                 };
@@ -44,7 +45,7 @@ pub fn steps_at(
         }
     }
     Steps {
-        outcome: Outcome::Done,
+        outcome: Ok(()),
         next: at,
         count: rows.len(),
     }

@@ -1,33 +1,33 @@
--- Laws of the answers. In order: an answer to reading and the result behind it, the bits taken, what judging says of the rules, the last cursor, the end of
--- the bytes, what writing answers and leaves.
+-- Laws of the answers. In order: an answer to reading and the result behind it, the bits taken, what judging says of the rules, what the program read, what writing
+-- answers and leaves.
 use mathlib.Core.Path.{◌≡◌, refl, sym, ap, ◌∙◌, subst}
 use mathlib.Core.Logic.{◌⊎◌, inl, inr}
 use mathlib.Core.List.{List, ◌++◌}
 use mathlib.Core.Option.{none, some}
-use Prim.Native.Nat.{ℕ, ◌*◌, ◌/◌, ◌%◌, ◌≤◌, ◌<◌}
-use native.Mathlib.Decide.{ℕ_discrete, dec_lt}
+use Prim.Native.Nat.{ℕ, ◌*◌, ◌≤◌, ◌<◌}
 use native.Mathlib.Omega.{arith}
-use borrow.Author.Tests.{le-leb, lt-leb, eq-eqb, ne_eqb}
-use lib.Dec.{eqb}
+use borrow.Author.Tests.{le-leb, lt-leb}
 use lib.ListN.{length, drop}
 use Rattle.format.specs.Format.{Res, ok, bad, bits_until}
 use Rattle.format.specs.File.{SameBits, Bytes, refused, bytes, read_file, write_file}
-use Rattle.format.specs.Steps.{res_of, CountIsPlace}
-use Rattle.format.specs.declared.Cursor.{Cursor}
+use Rattle.format.specs.Reads.{res_of}
 use Rattle.format.proofs.Fault.{BadAt}
 use Rattle.format.proofs.Bounded.{file-short}
 use Rattle.format.proofs.Cut.{Again, file-enough}
-use Rattle.format.proofs.Chain.{res-good, res-bad}
 use Rattle.format.proofs.Round.{write_read, read-judged, refused-judged}
 use Rattle.policy.specs.Policy.{Policy}
 use Rattle.policy.specs.File.{policy_format}
 use Rattle.policy.proofs.Bound.{bounded-policy}
 use Rattle.policy.proofs.Cut.{cuts-policy}
 use Rattle.policy.proofs.PolicyLaw.{lawful-policy}
-use Rattle.rules.specs.Answers.{refusal, rules, answer_of, answered, reading, bits_taken, writing, written_of, filled}
+use Rattle.rules.specs.Answers.{refusal, rules, answer_of, answered, reading, bits_taken, writing, written, written_of, filled}
 use Rattle.rules.specs.Claims.{largest_file}
-use Rattle.rules.specs.declared.Reading.{Reading}
-use Rattle.rules.specs.declared.Written.TheVariants as Written
+use Rattle.policy.specs.Rules.{policy_of}
+use Rattle.policy.specs.declared.Rules.{Rules}
+use Rattle.refusal.specs.declared.Refusal.{Refusal}
+use Rattle.refusal.specs.Number.{number_of}
+use Rattle.std.specs.Prelude.{Result, Ok, Err, IsErrAnd}
+use Rattle.std.proofs.lemmas.Result.{err_from_is_err_and}
 
 answered-rules : {C : Type 0} (r : Res Policy) (p : Policy) → answered r ≡ rules p → ((q : ℕ) → r ≡ ok p q → C) → C
 unfolding answered
@@ -94,55 +94,49 @@ reading-judged s p e = reading-rules s p e (λ q f. read-judged policy_format la
 pub writing-judged : (p : Policy) (n : ℕ) → writing p ≡ refused n → policy_format.judge p ≡ some n
 writing-judged p n e = refused-judged policy_format p n (sym (writing-is p) ∙ e)
 
-module _ (s : List ℕ) (c : Cursor) (p : Policy) (e : res_of c p ≡ read_file policy_format s) where
-  -- the last cursor has a number: it is the answer
-  pub ends-refused : 0 < c.number → reading s ≡ refusal c.number
-  ends-refused z = refusal-reading s c.number record { place = c.pos; is = sym e ∙ res-bad c p z }
-
-  -- it has none: what was read is the answer
-  pub ends_read : c.number ≡ 0 → reading s ≡ rules p
-  ends_read z = rules-reading s p c.pos (sym e ∙ res-good c p z)
+module _ (s : List ℕ) (a : Result Rules Refusal) (q : ℕ) (e : res_of policy_of a q ≡ read_file policy_format s) where
+  -- what the program read is the answer
+  pub whole-answer : answer_of a ≡ reading s
+  unfolding answer_of
+  whole-answer = go a e
+    where
+      go : (a : Result Rules Refusal) → res_of policy_of a q ≡ read_file policy_format s → answer_of a ≡ reading s
+      go (Ok r) e = sym (rules-reading s (policy_of r) q (sym e))
+      go (Err x) e = sym (refusal-reading s (number_of x) record { place = q; is = sym e })
 
   -- and as many bits were taken as stand before its place
-  pub ends-bits : CountIsPlace s c → c.taken ≡ bits_taken s
-  ends-bits o = go (dec_lt 0 c.number)
+  pub whole-bits : q ≡ bits_taken s
+  whole-bits = go a e
     where
-      go : Dec (0 < c.number) → c.taken ≡ bits_taken s
-      go (yes h) = o.count ∙ sym (bad-taken s c.number c.pos (sym e ∙ res-bad c p h))
-      go (no h) = o.count ∙ sym (ok-taken s p c.pos (sym e ∙ res-good c p (omega arith)))
+      go : (a : Result Rules Refusal) → res_of policy_of a q ≡ read_file policy_format s → q ≡ bits_taken s
+      go (Ok r) e = sym (ok-taken s (policy_of r) q (sym e))
+      go (Err x) e = sym (bad-taken s (number_of x) q (sym e))
 
--- a place is the end of n bytes exactly when it is n whole bytes on
-pub whole-bytes : (pos n : ℕ) → pos % 8 ≡ 0 → eqb (pos / 8) n ≡ eqb pos (8 * n)
-whole-bytes pos n z = go (ℕ_discrete pos (8 * n))
-  where
-    go : Dec (pos ≡ 8 * n) → eqb (pos / 8) n ≡ eqb pos (8 * n)
-    go (yes e) = let d : pos / 8 ≡ n = omega arith in eq-eqb (pos / 8) n d ∙ sym (eq-eqb pos (8 * n) e)
-    go (no e) = ne_eqb (pos / 8) n (λ d. e (omega arith)) ∙ sym (ne_eqb pos (8 * n) e)
-
-pub refused-written : (b : Bytes) (n room : ℕ) → b ≡ refused n → Written.Refused n ≡ written_of b room
-unfolding written_of
-refused-written b n room e = rw e refl
+-- a refusal of writing is handed on
+pub refused-written : (b : Bytes) (why : Refusal) (r : Result ℕ Refusal) (room : ℕ) → IsErrAnd r (λ e. e ≡ why) → b ≡ refused (number_of why) → written r ≡ written_of b room
+unfolding written written_of
+refused-written b why r room h e = let d = err_from_is_err_and r h in rw (d.1, d.2, e) refl
 
 pub refused-filled : (b : Bytes) (n : ℕ) (out : List ℕ) → b ≡ refused n → out ≡ filled b out
 unfolding filled
 refused-filled b n out e = rw e refl
 
-module _ (b : Bytes) (l : List ℕ) (e : b ≡ bytes l) where
-  pub short-written : (room : ℕ) → room < length l → Written.Refused 11 ≡ written_of b room
-  unfolding written_of
-  short-written room h = rw e (simp (lt-leb (length l) room h))
+module _ (l : List ℕ) where
+  pub short-written : (room : ℕ) → room < length l → written (Err Refusal.Room) ≡ written_of (bytes l) room
+  unfolding written written_of number_of
+  short-written room h = simp (lt-leb (length l) room h)
 
-  pub short-filled : (out : List ℕ) → length out < length l → out ≡ filled b out
+  pub short-filled : (out : List ℕ) → length out < length l → out ≡ filled (bytes l) out
   unfolding filled
-  short-filled out h = rw e (simp (lt-leb (length l) (length out) h))
+  short-filled out h = simp (lt-leb (length l) (length out) h)
 
-  pub long-written : (n room : ℕ) → n ≡ length l → length l ≤ room → Written.Length n ≡ written_of b room
-  unfolding written_of
-  long-written n room d h = rw e (simp (d, le-leb (length l) room h))
+  pub long-written : (room : ℕ) → length l ≤ room → written (Ok (length l)) ≡ written_of (bytes l) room
+  unfolding written written_of
+  long-written room h = simp (le-leb (length l) room h)
 
-  pub long_filled : (out : List ℕ) → length l ≤ length out → l ++ drop (length l) out ≡ filled b out
+  pub long_filled : (out : List ℕ) → length l ≤ length out → l ++ drop (length l) out ≡ filled (bytes l) out
   unfolding filled
-  long_filled out h = rw e (simp (le-leb (length l) (length out) h))
+  long_filled out h = simp (le-leb (length l) (length out) h)
 
 -- a file that is written is no longer than the largest
 pub written-short : (p : Policy) (l : List ℕ) → writing p ≡ bytes l → length l ≤ largest_file
@@ -150,11 +144,11 @@ written-short p l e =
     file-short policy_format bounded-policy largest_file (omega arith) l p (8 * length l) (write_read policy_format lawful-policy p l (sym (writing-is p) ∙ e))
 
 -- what a caller knows from the answer
-module _ (s : List ℕ) (a : Reading) (p : Policy) (e : answer_of a p ≡ reading s) where
-  pub was-accepted : a ≡ Reading.Accepted → reading s ≡ rules p
+module _ (s : List ℕ) (a : Result Rules Refusal) (e : answer_of a ≡ reading s) where
+  pub was-accepted : (r : Rules) → a ≡ Ok r → reading s ≡ rules (policy_of r)
   unfolding answer_of
-  was-accepted d = sym e ∙ ap (λ (x : Reading). answer_of x p) d
+  was-accepted r d = sym e ∙ ap answer_of d
 
-  pub was-refused : (n : ℕ) → a ≡ Reading.Refused n → reading s ≡ refusal n
+  pub was-refused : (x : Refusal) → a ≡ Err x → reading s ≡ refusal (number_of x)
   unfolding answer_of
-  was-refused n d = sym e ∙ ap (λ (x : Reading). answer_of x p) d
+  was-refused x d = sym e ∙ ap answer_of d

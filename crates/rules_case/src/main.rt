@@ -2,47 +2,33 @@
 // number. What a record holds is in src/record.rt.
 #![tactic(auto)]
 
+ghost use Rattle.std.specs.Prelude.{◌≤◌, length};
+
 mod record;
 
-use rules::Written;
 use std::io;
 use std::io::Read;
 
 // So many records are answered at most.
 const RECORDS: u64 = 1000000;
 
-// A number below 16 as a digit.
-fn digit(x: u8) -> u8 {
-    let d = x % 16;
-    if d < 10 { d + 48 } else { d + 87 }
-}
-
-// A line of the first n bytes, two digits each.
-fn print_bytes(rt: &impl Print, out: &[u8; 4096], n: usize) -> io::Result<()> {
-    let mut line: [u8; 8193] = [10; 8193];
-    if 4096 < n {
-        return Ok(());
-    }
-    for i in 0..n {
-        let b = out[i];
-        line[2 * i] = digit(b / 16);
-        line[2 * i + 1] = digit(b);
-    }
-    rt.write_all(&line[0..2 * n + 1])
-}
-
-fn print_refused(rt: &impl Print, n: u8) -> io::Result<()> {
-    println!(rt; "REFUSED {n}")
+// A line of these bytes, at most 4,096 of them, two digits each.
+fn print_bytes(rt: &impl Print, bytes: &[u8]) -> io::Result<()>
+    requires { length bytes.now ≤ 4096 }
+{
+    let mut line = [b'\n'; 8193];
+    let digits = 2 * bytes.len();
+    let _ = hex::encode_to_slice(bytes, &mut line[..digits]);
+    rt.write_all(&line[..digits + 1])
 }
 
 // Writes the rules of a record to as many bytes as it says, and prints what comes of it.
 fn answer(rt: &impl Print, bytes: &[u8]) -> io::Result<()> {
-    let mut out: [u8; 4096] = [0; 4096];
-    let room = record::room_of(bytes);
-    let w = rules::write_rules(record::rules_of(bytes), &mut out[0..room]);
-    match w {
-        Written::Length(n) => print_bytes(rt, &out, n),
-        Written::Refused(n) => print_refused(rt, n),
+    let mut out = [0; 4096];
+    let record = record::read(bytes);
+    match rules::write_rules(record.rules, &mut out[..record.room]) {
+        Ok(n) => print_bytes(rt, &out[..n.min(4096)]),
+        Err(refusal) => println!(rt; "REFUSED {}", u8::from(refusal)),
     }
 }
 

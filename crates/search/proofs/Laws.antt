@@ -1,81 +1,20 @@
--- Laws of searches as the program makes them. In order: nothing found, depths, one more value, choices, turns of loops; values not found yet, the
+-- Laws of searches as the program makes them. In order: choices, turns of loops; values not found yet, the
 -- values of a row; from one place after another, of sessions. Not here: items (ItemLaws).
 use mathlib.Core.Path.{◌≡◌, refl, sym, ap, ap₂, ◌∙◌}
 use mathlib.Core.Bool.{Bool, true, false, not, ◌&&◌, cond, false≢true}
 use mathlib.Core.List.{List}
-use Prim.Native.Nat.{ℕ, zero, suc, ◌+◌, ◌-◌, ◌%◌, ◌≤◌, ◌<◌}
+use Prim.Native.Nat.{ℕ, zero, suc, ◌+◌, ◌-◌, ◌≤◌, ◌<◌}
 use native.Mathlib.Numerals.{add-one}
 use native.Mathlib.Omega.{arith}
-use borrow.Author.Tests.{le-leb, lt-leb, lt-ltb, le-ltb, eq-eqb, ne_eqb}
+use borrow.Author.Tests.{lt-ltb, le-ltb}
 use lib.Dec.{ltb}
-use lib.ListN.{length, get_or, set, replicate}
-use Rattle.lanes.specs.Lanes.{lane_of, added, Lanes, some_below, no_lane}
+use Rattle.lanes.specs.Lanes.{lane_of, Lanes, some_below, no_lane}
 use Rattle.lanes.proofs.Laws.{Rest, lowest-here, lanes-as, none-lanes}
 use Rattle.runs.specs.Model.{Model}
 use Rattle.runs.specs.Edge.{opens_with, changes_to, modifies_to}
-use Rattle.search.specs.Queue.{nothing, depth_after, pushed, unmet, spread_to, spread}
-use Rattle.search.specs.Lent.{part, found_of}
+use Rattle.search.specs.Queue.{nothing, pushed, unmet, spread_to, spread}
 use Rattle.search.specs.Sessions.{grown_at, grow_to, sessions_found, own_found}
 use Rattle.search.specs.declared.queue.Found.{Found}
-use Rattle.search.specs.declared.queue.Head.{Head}
-use Rattle.search.proofs.Parts.{part_none, linked-from, linked-via, linked-depth, linked-place}
-
--- nothing found, where the arrays are lent
-pub lent_nothing : {h : Head} → h ≡ record { seen = replicate 4 0; len = 0 } → found_of h (replicate 256 0) (replicate 1024 0) ≡ nothing
-unfolding nothing
-lent_nothing e =
-    ap (λ (h : Head). found_of h (replicate 256 0) (replicate 1024 0)) e
-    ∙ simp (part_none 0 (omega arith), part_none 1 (omega arith), part_none 2 (omega arith), part_none 3 (omega arith)) refl
-
-module _ (depth : List ℕ) (from : ℕ) where
-  pub depth-start : from ≡ 0 → depth_after depth from ≡ 0
-  unfolding depth_after
-  depth-start e = simp (eq-eqb from 0 e)
-
-  pub depth-far : (from ≡ 0 → ⊥) → 256 ≤ from - 1 → depth_after depth from ≡ 0
-  unfolding depth_after
-  depth-far d h = simp (ne_eqb from 0 d, le-leb 256 (from - 1) h)
-
-  pub depth-at : (from ≡ 0 → ⊥) → from - 1 < 256 → depth_after depth from ≡ (get_or depth (from - 1) 0 + 1) % 65536
-  unfolding depth_after
-  depth-at d h = simp (ne_eqb from 0 d, lt-leb 256 (from - 1) h)
-
-module _ (q : Found) (y from via : ℕ) where
-  -- no room
-  pub push-full : 256 ≤ q.len → pushed q y from via ≡ q
-  unfolding pushed
-  push-full h = simp (le-leb 256 q.len h)
-
-  pub push-room : q.len < 256 → pushed q y from via
-      ≡ record {
-        seen = added q.seen y;
-        order = set q.order q.len y;
-        from = set q.from q.len from;
-        via = set q.via q.len via;
-        depth = set q.depth q.len (depth_after q.depth from);
-        place = set q.place y (q.len + 1);
-        len = q.len + 1;
-      }
-  unfolding pushed
-  push-room h = simp (lt-leb 256 q.len h)
-
--- a value stored at the end, where the arrays are lent
-pub push-lent : (h : Head) (order links seen : List ℕ) (y from via depth : ℕ) → length links ≡ 1024 → h.len < 256 → y < 256
-    → seen ≡ added h.seen y → depth ≡ depth_after (part 2 links) from
-    → found_of (record { seen = seen; len = h.len + 1 }) (set order h.len y)
-    (set (set (set (set links h.len from) (256 + h.len) via) (512 + h.len) depth) (768 + y) (h.len + 1))
-    ≡ pushed (found_of h order links) y from via
-push-lent h order links seen y from via depth L l g e f =
-    let k = h.len in
-    rw (
-      linked-from links k y from via depth (k + 1) L l g,
-      linked-via links k y from via depth (k + 1) L l g,
-      linked-depth links k y from via depth (k + 1) L l g,
-      linked-place links k y from via depth (k + 1) L l g,
-      e,
-      f,
-    )
-    (sym (push-room (found_of h order links) y from via l))
 
 -- a choice by a flag that is known
 pub cond-on : (b : Bool) (p r : Found) {x : Found} → b ≡ true → x ≡ p → x ≡ cond b p r

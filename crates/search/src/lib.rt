@@ -2,3 +2,4 @@
 #![tactic(auto)]
 
 pub mod queue;
+pub mod way;

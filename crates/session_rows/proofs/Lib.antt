@@ -1,2 +1,2 @@
 pub mod Laws  -- rows written one after another
-pub mod Brought  -- sessions that are brought, and help
+pub mod Brought  -- the next number after a session is brought, and after help

@@ -1,74 +1,61 @@
-// A row at the end of those so far.
-ghost use Rattle.std.specs.Prelude.{◌≡◌, List, ◌∷◌, [], ℕ, ◌-◌, ◌≤◌, ◌<◌, length, get_or};
+// A row at the end of those so far, and the sessions that stand open.
+ghost use Rattle.std.specs.Prelude.{◌≡◌, List, ◌∷◌, [], ℕ, ◌≤◌, ◌<◌, length, get_or as element};
 ghost use Rattle.session_rows.specs.Writing.{row_of, wrote, stood, writing_of, Wrote};
 
 use super::Pen;
+use bits::get_or;
 use cells::Row;
-use policy::shape::byte_at;
 
 // The row of a step.
+#[tactic(auto, unfolding(crate::specs::Writing::row_of))]
 pub fn row_of(kind: u64, actor: u64, target: u64, value: u64) -> u64
     ensures { result ≡ row_of kind actor target value }
 {
     Row::bits(Row::new(kind, actor, target, value))
 }
 
-// One row more, where there is room.
-pub fn put(rows: &mut [u64], pen: Pen, row: u64) -> Pen
-    requires { pen.at ≤ length rows.old }
-    ensures rows_after { writing_of result rows.new ≡ wrote (length rows.old) (row ∷ []) (writing_of pen rows.old) }
-    ensures wrote { Wrote pen rows.old result rows.new }
-{
-    let at = pen.at;
-    if rows.len() <= at {
-        return pen;
+impl Pen {
+    // One row more, where there is room.
+    #[tactic(auto, using(crate::proofs::Laws::none_written, crate::proofs::Laws::one_written))]
+    pub fn put(&mut self, rows: &mut [u64], row: u64)
+        requires { self.old.at ≤ length rows.old }
+        ensures rows_after { writing_of self.new rows.new ≡ wrote (length rows.old) (row ∷ []) (writing_of self.old rows.old) }
+        ensures wrote { Wrote self.old rows.old self.new rows.new }
+    {
+        let at = self.at;
+        if rows.len() <= at {
+            return;
+        }
+        rows[at] = row;
+        self.at = at + 1;
     }
-    rows[at] = row;
-    let mut r = pen;
-    r.at = at + 1;
-    r
-}
 
-// The next number is a session of user u that stands open with value v.
-pub(super) fn stand(pen: Pen, u: u8, v: usize) -> Pen
-    requires { pen.next < 1000000 }
-    ensures by_index { (rows : List ℕ) → writing_of result rows ≡ stood u v (writing_of pen rows) }
-    ensures at_value { result.at ≡ pen.at }
-{
-    let n = pen.next + 1;
-    let mut r = pen;
-    if v < 256 {
-        r.number[v] = n as u32;
-        r.owner[v] = u;
+    // The next number is a session of user u that stands open with value v.
+    #[tactic(auto, unfolding(crate::specs::Writing::stood))]
+    pub(super) fn stand(&mut self, u: u8, v: usize)
+        requires { self.old.next < 1000000 }
+        ensures by_index { (rows : List ℕ) → writing_of self.new rows ≡ stood u v (writing_of self.old rows) }
+        ensures at_value { self.new.at ≡ self.old.at }
+    {
+        let n = self.next + 1;
+        if v < 256 {
+            self.number[v] = n as u32;
+            self.owner[v] = u;
+        }
+        self.next = n;
     }
-    r.next = n;
-    r
-}
 
-// One less, or 0.
-pub fn before(x: u64) -> u64
-    ensures { result ≡ x - 1 }
-{
-    if x == 0 { 0 } else { x - 1 }
-}
+    // The number plus 1 of the session that stands open with value v, or 0.
+    pub fn number_at(&self, v: usize) -> u32
+        ensures { result ≡ element self.now.number v 0 }
+    {
+        get_or(&self.number, v, 0)
+    }
 
-// Element k, or 0 past the end.
-fn word_at(s: &[u32], k: usize) -> u32
-    ensures { result ≡ get_or s.now k 0 }
-{
-    if k < s.len() { s[k] } else { 0 }
-}
-
-// The number plus 1 of the session that stands open with value v, or 0.
-pub fn number_at(pen: Pen, v: usize) -> u32
-    ensures { result ≡ get_or pen.number v 0 }
-{
-    word_at(&pen.number, v)
-}
-
-// Its user.
-pub(super) fn owner_at(pen: Pen, v: usize) -> u8
-    ensures { result ≡ get_or pen.owner v 0 }
-{
-    byte_at(&pen.owner, v)
+    // Its user.
+    pub(super) fn owner_at(&self, v: usize) -> u8
+        ensures { result ≡ element self.now.owner v 0 }
+    {
+        get_or(&self.owner, v, 0)
+    }
 }

@@ -1,6 +1,6 @@
 -- Laws of operands by lane and row. In order: an operand by its holder; what the two holders have; each kind of operand; comparisons.
 use mathlib.Core.Path.{◌≡◌, refl, sym, ap, ◌∙◌}
-use mathlib.Core.Bool.{Bool, true, false, cond}
+use mathlib.Core.Bool.{Bool, cond}
 use mathlib.Core.List.{List}
 use Prim.Native.Nat.{ℕ, zero, suc, ◌/◌, ◌%◌, ◌^◌, ◌≤◌, ◌<◌, min}
 use native.Mathlib.Nat.{zero-div, mod-eq_of_lt}
@@ -20,8 +20,9 @@ use Rattle.planes.proofs.Values.{field_cut, field-number}
 use Rattle.planes.proofs.Numbers.{number-constant}
 use Rattle.dependence.specs.Answers.{holders_of}
 use Rattle.sides.specs.Leaf.{two, leaf}
-use Rattle.sides.specs.Side.{field_of, operand_at, Tells}
+use Rattle.sides.specs.Side.{field_of, operand_at, size_of, Tells}
 use Rattle.sides.specs.declared.Side.{Side}
+use Rattle.sides.specs.declared.Side.TheVariants.{Row, Lane, Constant}
 
 held_of : (f : ℕ → ℕ) (h : ℕ) → h < 5 → held_by (holders_of f) h ≡ f h
 unfolding held_by holders_of
@@ -55,13 +56,13 @@ module _ (c : Lists) (x : ℕ) where
   size_none h = simp (le-ltb (holder_of x) 5 h)
 
 module _ (c : Lists) (a b x : ℕ) where
-  pub tells-constant : holder_of x ≡ 5 → Tells c a b x record { row = false; shift = 0; bits = 0; number = place_of x; size = 0 }
-  unfolding operand_at
+  pub tells-constant : holder_of x ≡ 5 → Tells c a b x (Constant (place_of x) 0)
+  unfolding operand_at size_of
   tells-constant h =
       record { number = λ v i p q. operand-constant c x _ h ∙ sym (number-constant (place_of x) 0 v); size = size_none c x (omega arith) }
 
-  pub tells_none : 5 < holder_of x → Tells c a b x record { row = false; shift = 0; bits = 0; number = 0; size = 0 }
-  unfolding operand_at
+  pub tells_none : 5 < holder_of x → Tells c a b x (Constant 0 0)
+  unfolding operand_at size_of
   tells_none h =
       record { number = λ v i p q. operand-none c x _ h ∙ sym (number-constant 0 0 v); size = size_none c x (omega arith) }
 
@@ -85,8 +86,8 @@ module _ (c : Lists) (a b x : ℕ) where
         ∙ ap (part_of attrs (place_of x)) (held_of (two a b v i) (holder_of x) l)
 
     pub tells-lane : holder_of x ≡ a
-        → Tells c a b x record { row = false; shift = (field_of attrs (place_of x)).shift; bits = (field_of attrs (place_of x)).bits; number = 0; size = (field_of attrs (place_of x)).size }
-    unfolding operand_at field_of two w n k
+        → Tells c a b x (Lane (field_of attrs (place_of x)))
+    unfolding operand_at size_of field_of two w n k
     tells-lane e =
         record {
           number = λ v i p q.
@@ -96,8 +97,8 @@ module _ (c : Lists) (a b x : ℕ) where
         }
 
     pub tells_row : (holder_of x ≡ a → ⊥) → holder_of x ≡ b
-        → Tells c a b x record { row = true; shift = (field_of attrs (place_of x)).shift; bits = (field_of attrs (place_of x)).bits; number = 0; size = (field_of attrs (place_of x)).size }
-    unfolding operand_at field_of two w n k
+        → Tells c a b x (Row (field_of attrs (place_of x)))
+    unfolding operand_at size_of field_of two w n k
     tells_row d e =
         record {
           number = λ v i p q.
@@ -107,8 +108,8 @@ module _ (c : Lists) (a b x : ℕ) where
         }
 
     pub tells-zero : (holder_of x ≡ a → ⊥) → (holder_of x ≡ b → ⊥)
-        → Tells c a b x record { row = false; shift = 0; bits = 0; number = 0; size = (field_of attrs (place_of x)).size }
-    unfolding operand_at field_of two k
+        → Tells c a b x (Constant 0 (field_of attrs (place_of x)).size)
+    unfolding operand_at size_of field_of two k
     tells-zero d e =
         record {
           number = λ v i p q.
@@ -120,9 +121,16 @@ module _ (c : Lists) (a b x : ℕ) where
         nothing : (w n : ℕ) → 0 / 2 ^ w % 2 ^ n ≡ 0
         nothing w n = ap (λ (z : ℕ). z % 2 ^ n) (zero-div (2 ^ w)) ∙ mod-eq_of_lt (pow_pos n)
 
+-- an operand keeps the size of its list in all rows
+pub size-at : (s : Side) (i : ℕ) → (operand_at s i).size ≡ size_of s
+unfolding operand_at size_of
+size-at (Row f) i = refl
+size-at (Lane f) i = refl
+size-at (Constant n z) i = refl
+
 -- what the comparison of a node says, by its operands
 pub leaf-is : (c : Lists) (a b node : ℕ) (x y : Side) → Tells c a b (first_of node) x → Tells c a b (second_of node) y → (i v : ℕ) → i < 256 → v < 256
     → compared_in (op_of node) (operand_at x i) (operand_at y i) v ≡ leaf c a b node i v
-unfolding compared_in compared_by compared leaf operand_at
+unfolding compared_in compared_by compared leaf
 leaf-is c a b node x y X Y i v hi hv =
-    sym (rw (X.number v i hv hi, Y.number v i hv hi, X.size, Y.size) refl)
+    sym (rw (X.number v i hv hi, Y.number v i hv hi, X.size, Y.size, size-at x i, size-at y i) refl)

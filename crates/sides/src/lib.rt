@@ -1,7 +1,7 @@
 // Operands of a comparison, by the holder whose values stand for lanes and the one whose values stand for rows.
 #![tactic(auto)]
 
-ghost use Rattle.std.specs.Prelude.{◌≡◌, false, ◌+◌, ◌/◌, ◌%◌, ◌^◌, ◌≤◌, ◌<◌, drop};
+ghost use Rattle.std.specs.Prelude.{◌≡◌, ◌+◌, ◌/◌, ◌%◌, ◌^◌, ◌≤◌, ◌<◌, drop};
 ghost use Rattle.policy.specs.Policy.{width};
 ghost use Rattle.policy.specs.Rules.{attrs_of, lists_of};
 ghost use Rattle.sides.specs.Side.{field_of, operand_at, Tells};
@@ -9,7 +9,6 @@ ghost use Rattle.sides.specs.Side.{field_of, operand_at, Tells};
 use formulas::table::byte_of;
 use planes::class_of;
 use planes::operand::Operand;
-use policy::shape::{bits_for, byte_at};
 use policy::{Class, Classes};
 
 // Where the value of an attribute lies in a packed value: how many bits stand right of it, at most 8, and how many it has itself. Its list has `size`
@@ -21,14 +20,15 @@ pub struct Field {
     pub size: u8,
 }
 
-// An operand: a field of the row's number where `row` is true, else one of the lane's, which has no bits where one number is in all lanes.
+// An operand.
 #[derive(Clone, Copy)]
-pub struct Side {
-    pub row: bool,
-    pub shift: u8,
-    pub bits: u8,
-    pub number: u8,
-    pub size: u8,
+pub enum Side {
+    // A field of the row's number.
+    Row(Field),
+    // A field of the lane's number.
+    Lane(Field),
+    // One number in all lanes and rows. Its list has `size` values.
+    Constant { number: u8, size: u8 },
 }
 
 // How many bits stand right of the value of attribute k.
@@ -37,10 +37,8 @@ fn right_of(class: Class, k: usize) -> usize
     ensures { result ≡ width (drop (k + 1) (attrs_of class)) }
 {
     let mut right: usize = 0;
-    let mut j = class.count as usize;
-    while k + 1 < j {
-        j -= 1;
-        right += bits_for(byte_at(&class.kinds, j), byte_at(&class.sizes, j)) as usize;
+    for j in (k + 1..class.count as usize).rev() {
+        right += class.attribute(j).bits() as usize;
     }
     right
 }
@@ -56,24 +54,11 @@ fn field_of(class: Class, k: usize) -> Field
             size: 0,
         };
     }
-    let size = byte_at(&class.sizes, k);
+    let attribute = class.attribute(k);
     Field {
         shift: byte_of(right_of(class, k)),
-        bits: bits_for(byte_at(&class.kinds, k), size),
-        size,
-    }
-}
-
-// One number in all lanes and rows.
-fn plain(number: u8, size: u8) -> Side
-    ensures { result ≡ record { row = false; shift = 0; bits = 0; number = number; size = size } }
-{
-    Side {
-        row: false,
-        shift: 0,
-        bits: 0,
-        number,
-        size,
+        bits: attribute.bits(),
+        size: attribute.size,
     }
 }
 
@@ -83,31 +68,25 @@ pub fn side_of(classes: Classes, lane: u8, row: u8, x: u8) -> Side
 {
     let h = x / 32;
     if h == 5 {
-        return plain(x % 32, 0);
+        return Side::Constant {
+            number: x % 32,
+            size: 0,
+        };
     }
     if 5 < h {
-        return plain(0, 0);
+        return Side::Constant { number: 0, size: 0 };
     }
     let f = field_of(class_of(classes, h), (x % 32) as usize);
     if h == lane {
-        return Side {
-            row: false,
-            shift: f.shift,
-            bits: f.bits,
-            number: 0,
-            size: f.size,
-        };
+        return Side::Lane(f);
     }
     if h == row {
-        return Side {
-            row: true,
-            shift: f.shift,
-            bits: f.bits,
-            number: 0,
-            size: f.size,
-        };
+        return Side::Row(f);
     }
-    plain(0, f.size)
+    Side::Constant {
+        number: 0,
+        size: f.size,
+    }
 }
 
 // So many bits of v as `bits` says, from bit `shift` on.
@@ -126,53 +105,47 @@ pub fn part_of(v: usize, shift: u8, bits: u8) -> u8
 }
 
 // The operand in the lanes of row i.
+#[tactic(auto, unfolding(crate::specs::Side::operand_at))]
 pub fn operand_at(s: Side, i: usize) -> Operand
     requires { i < 256 }
     ensures { result ≡ operand_at s i }
 {
-    if s.row {
-        return Operand {
-            shift: 0,
-            bits: 0,
-            number: part_of(i, s.shift, s.bits),
-            size: s.size,
-        };
-    }
-    Operand {
-        shift: s.shift,
-        bits: s.bits,
-        number: s.number,
-        size: s.size,
+    match s {
+        Side::Row(f) => Operand::constant(part_of(i, f.shift, f.bits), f.size),
+        Side::Lane(f) => Operand {
+            shift: f.shift,
+            bits: f.bits,
+            number: 0,
+            size: f.size,
+        },
+        Side::Constant { number, size } => Operand::constant(number, size),
     }
 }
 
 // A row that is no later than row i and has the same operand.
+#[tactic(auto, unfolding(crate::specs::Side::operand_at))]
 fn start_of(s: Side, i: usize) -> usize
     requires { i < 256 }
     ensures upper_bound { result ≤ i }
-    ensures result_value { operand_at s result ≡ operand_at s i }
+    ensures same { operand_at s result ≡ operand_at s i }
 {
-    if !s.row {
-        return 0;
+    match s {
+        Side::Row(f) if f.shift < 8 => (part_of(i, f.shift, f.bits) as usize) << f.shift,
+        Side::Row(_) | Side::Lane(_) | Side::Constant { .. } => 0,
     }
-    if 8 <= s.shift {
-        return 0;
-    }
-    (part_of(i, s.shift, s.bits) as usize) << s.shift
 }
 
 // A row that is no later than row i and has the same two operands.
+#[tactic(auto, unfolding(crate::specs::Side::operand_at))]
 pub fn first_alike(x: Side, y: Side, i: usize) -> usize
     requires { i < 256 }
     ensures upper_bound { result ≤ i }
-    ensures result_value { operand_at x result ≡ operand_at x i }
-    ensures result_value_2 { operand_at y result ≡ operand_at y i }
+    ensures first_same { operand_at x result ≡ operand_at x i }
+    ensures second_same { operand_at y result ≡ operand_at y i }
 {
-    if !x.row {
-        return start_of(y, i);
+    match (x, y) {
+        (Side::Row(_), Side::Row(_)) => i,
+        (Side::Row(_), _) => start_of(x, i),
+        _ => start_of(y, i),
     }
-    if y.row {
-        return i;
-    }
-    start_of(x, i)
 }

@@ -1,16 +1,14 @@
--- Laws of the tables of comparisons. In order: a list filled in place by place; how many values are told apart; how many rows a table has; where tables
--- begin; one table more.
+-- Laws of the tables of comparisons. In order: how many values are told apart; how many rows a table has; where tables begin; one table more.
 use mathlib.Core.Path.{◌≡◌, refl, sym, ap, ap₂, ◌∙◌, subst}
-use mathlib.Core.Bool.{Bool, true, false, ◌&&◌, ◌||◌, cond}
+use mathlib.Core.Bool.{Bool, true, false}
 use mathlib.Core.List.{List}
 use Prim.Native.Nat.{ℕ, ◌+◌, ◌*◌, ◌^◌, ◌%◌, ◌≤◌, ◌<◌, min}
 use native.Mathlib.Nat.{add-mul, mul-le-mul_right, mul-le-mul, min-eq_left, min-eq_right}
 use native.Mathlib.Decide.{dec_lt}
 use native.Mathlib.Omega.{arith}
 use borrow.Author.Tests.{lt-ltb, le-ltb}
-use lib.ListN.{length, get_or, set}
-use lib.Seq.{get_or-set_same, get_or-set_other}
-use lib.Pow.{pow_pos, pow_mono, shl_exact}
+use lib.ListN.{get_or}
+use lib.Pow.{pow_mono, shl_exact}
 use Rattle.policy.specs.Policy.{Lists, width}
 use Rattle.policy.specs.Nodes.{op_of, of_holder}
 use Rattle.bitsets.specs.Rows.{bit_at, Rows, put_from}
@@ -18,15 +16,6 @@ use Rattle.bitsets.proofs.Rows.{put_from-before, put_from-inside}
 use Rattle.sides.specs.Leaf.{leaf}
 use Rattle.prepared.specs.Prepared.{table_at, room_of, lane_for, row_for, rows_for}
 use Rattle.tables.specs.Tables.{Table, Tables}
-
--- one place more of a list that is filled in by g
-pub filled_more : {A : Type 0} (g : ℕ → A) (x d : A) (l : List A) (n : ℕ) → n < length l → x ≡ g n → ((k : ℕ) → k < n → get_or l k d ≡ g k)
-    → (k : ℕ) → k < n + 1 → get_or (set l n x) k d ≡ g k
-filled_more {A} g x d l n m e f k p = go (dec_lt k n)
-  where
-    go : Dec (k < n) → get_or (set l n x) k d ≡ g k
-    go (yes q) = get_or-set_other l n k x d (λ z. omega arith) ∙ f k q
-    go (no q) = let z : k ≡ n = omega arith in ap (λ (j : ℕ). get_or (set l n x) j d) z ∙ get_or-set_same l n x d m ∙ e ∙ ap g (sym z)
 
 module _ (c : Lists) (h : ℕ) where
   pub room-none : 5 ≤ h → room_of c h ≡ 1
@@ -37,29 +26,22 @@ module _ (c : Lists) (h : ℕ) where
   unfolding room_of
   room-is l = simp (lt-ltb h 5 l)
 
-  pub room-all : h < 5 → 8 ≤ width (of_holder c h) → room_of c h ≡ 256
-  room-all l w = room-is l ∙ min-eq_right (pow_mono w)
+  -- 1 shifted by its bits, of which at most 8 count
+  pub room-shifted : (w k : ℕ) → h < 5 → w ≡ width (of_holder c h) → k ≡ min w 8 → (1 * 2 ^ k) % 2 ^ 64 ≡ room_of c h
+  room-shifted w k l e d = shl_exact {a = 1} 1 k 64 (omega arith) (omega arith) ∙ one ∙ go (dec_lt w 8) ∙ sym room
+    where
+      one : 1 * 2 ^ k ≡ 2 ^ k
+      one = omega arith
 
-  pub room-some : h < 5 → width (of_holder c h) < 8 → room_of c h ≡ 2 ^ width (of_holder c h)
-  room-some l w = room-is l ∙ min-eq_left (pow_mono {j = 8} (omega arith))
+      room : room_of c h ≡ min (2 ^ w) 256
+      room = room-is l ∙ ap (λ (j : ℕ). min (2 ^ j) 256) (sym e)
 
--- 1 shifted left by less than 8
-pub shifted : (w : ℕ) → w < 8 → ((1 * 2 ^ w) % 2 ^ 64 ≡ 2 ^ w) × (0 < 2 ^ w) × (2 ^ w ≤ 256)
-shifted w l = (shl_exact {a = 1} 1 w 64 (omega arith) (omega arith) ∙ omega arith, pow_pos w, pow_mono {j = 8} (omega arith))
+      go : Dec (w < 8) → 2 ^ k ≡ min (2 ^ w) 256
+      go (yes q) = let z : k ≡ w = omega arith in ap (λ (j : ℕ). 2 ^ j) z ∙ sym (min-eq_left (pow_mono {i = w} {j = 8} (omega arith)))
+      go (no q) = let z : k ≡ 8 = omega arith in ap (λ (j : ℕ). 2 ^ j) z ∙ sym (min-eq_right (pow_mono {i = 8} {j = w} (omega arith)))
 
 module _ (c : Lists) (L R O : ℕ) where
-  -- as many rows as there are values of the row holder, of the outer holder, or one
-  pub rows_are : (lanes rows outer : Bool) (n m r : ℕ) → r ≡ cond (lanes && rows) n (cond (outer && (lanes || rows)) m 1) → n ≡ room_of c R → m ≡ room_of c O
-      → r ≡ rows_for c L R O lanes rows outer
-  unfolding rows_for row_for
-  rows_are true true outer n m r e a b = e ∙ a
-  rows_are true false true n m r e a b = e ∙ b
-  rows_are true false false n m r e a b = e
-  rows_are false true true n m r e a b = e ∙ b
-  rows_are false true false n m r e a b = e
-  rows_are false false true n m r e a b = e
-  rows_are false false false n m r e a b = e
-
+  -- it has no more rows than there is room for
   pub rows_few : (room : ℕ) → 0 < room → room_of c R ≤ room → room_of c O ≤ room → (lanes rows outer : Bool)
       → rows_for c L R O lanes rows outer ≤ room
   unfolding rows_for row_for
@@ -113,13 +95,13 @@ module _ (c : Lists) (L R O : ℕ) (lanes rows outer : List Bool) (node : ℕ �
       ≡ leaf c (lane_for L R O (get_or lanes k false) (get_or rows k false)) (row_for L R O (get_or lanes k false) (get_or rows k false)) (node k) i v
 
   -- one table more
-  pub tables_more : (n base x : ℕ) (first old new : List ℕ) → base ≡ 193 + n * room → x ≡ node n → 0 < room → room_of c R ≤ room → room_of c O ≤ room
+  pub tables_more : (n base x : ℕ) (first old new : List ℕ) → base ≡ table_at room n → x ≡ node n → 0 < room → room_of c R ≤ room → room_of c O ≤ room
       → Tables c L R O lanes rows outer node room n first old
       → Table c L R O (get_or lanes n false) (get_or rows n false) (get_or outer n false) x base old new
       → Tables c L R O lanes rows outer node room (n + 1) first new
   tables_more n base x first old new e d z f g T N =
       record {
-        kept = λ a v p h. N.kept a v (omega (arith, e)) h ∙ T.kept a v p h;
+        kept = λ a v p h. N.kept a v (omega (arith, e, table_is room n)) h ∙ T.kept a v p h;
         each = λ k i v l h o p. go k i v l h (dec_lt k n) o p;
       }
     where
@@ -127,11 +109,11 @@ module _ (c : Lists) (L R O : ℕ) (lanes rows outer : List Bool) (node : ℕ �
       last i v h o p =
           let a = lane_for L R O (get_or lanes n false) (get_or rows n false) in
           let b = row_for L R O (get_or lanes n false) (get_or rows n false) in
-          ap (λ (y : ℕ). bit_at new (y + i) v) (table_is room n ∙ sym e) ∙ N.each i v h (subst (λ (y : ℕ). 5 ≤ op_of y) (sym d) o) p
+          ap (λ (y : ℕ). bit_at new (y + i) v) (sym e) ∙ N.each i v h (subst (λ (y : ℕ). 5 ≤ op_of y) (sym d) o) p
           ∙ ap (λ (y : ℕ). leaf c a b y i v) d
 
       go : (k i v : ℕ) → k < n + 1 → v < 256 → Dec (k < n) → Said new i v k
       go k i v l h (yes q) o p =
           let few = rows_few c L R O room z f g (get_or lanes k false) (get_or rows k false) (get_or outer k false) in
-          N.kept (table_at room k + i) v (omega (arith, e, table_is room k, times-later room k n q, p, few)) h ∙ T.each k i v q h o p
+          N.kept (table_at room k + i) v (omega (arith, e, table_is room n, table_is room k, times-later room k n q, p, few)) h ∙ T.each k i v q h o p
       go k i v l h (no q) o p = let m : n ≡ k = omega arith in subst (Said new i v) m (last i v h) o p

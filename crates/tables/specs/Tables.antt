@@ -7,6 +7,12 @@ use Rattle.policy.specs.Nodes.{op_of}
 use Rattle.bitsets.specs.Rows.{bit_at}
 use Rattle.sides.specs.Leaf.{leaf}
 use Rattle.prepared.specs.Prepared.{table_at, lane_for, row_for, rows_for}
+use Rattle.tables.specs.declared.Marks.{Marks}
+use Rattle.tables.specs.declared.On.{On}
+
+-- which of the three holders node k depends on
+abbrev pub marks_at : Marks → ℕ → On
+marks_at m k = record { lane = get_or m.lane k false; row = get_or m.row k false; outer = get_or m.outer k false }
 
 -- the table of one node, which depends on the holders that the three flags tell of, begins at row base; the rows before it stay. A node that joins
 -- others has none

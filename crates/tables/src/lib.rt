@@ -1,17 +1,17 @@
 // The tables of a formula's comparisons.
 #![tactic(auto)]
 
-ghost use Rattle.std.specs.Prelude.{◌≡◌, ◌&&◌, ◌||◌, cond, ℕ, ◌+◌, ◌*◌, ◌≤◌, ◌<◌, length, get_or};
+ghost use Rattle.std.specs.Prelude.{◌≡◌, ◌+◌, ◌*◌, ◌≤◌, ◌<◌, max, length, get_or};
 ghost use Rattle.policy.specs.Policy.{width};
 ghost use Rattle.policy.specs.Nodes.{of_holder};
 ghost use Rattle.policy.specs.Rules.{lists_of};
-ghost use Rattle.prepared.specs.Prepared.{table_at, room_of, lane_for, row_for};
-ghost use Rattle.tables.specs.Tables.{Table, Tables};
+ghost use Rattle.prepared.specs.Prepared.{room_of};
 
 use leaves::fill;
 use planes::class_of;
 use policy::Classes;
 use policy::shape::class_width;
+use prepared::Roles;
 
 // The bits of a packed value of holder h.
 fn width_of(classes: Classes, h: u8) -> usize
@@ -26,136 +26,158 @@ pub fn room_of(classes: Classes, h: u8) -> usize
     ensures result_nonzero { (0 < result) × (result ≤ 256) }
 {
     if 5 <= h {
-        return 1;
+        1
+    } else {
+        1 << width_of(classes, h).min(8)
     }
-    let w = width_of(classes, h);
-    if 8 <= w {
-        return 256;
-    }
-    1usize << w
 }
 
-// The larger of two numbers.
-pub fn larger(a: usize, b: usize) -> usize
-    ensures lower_bound { (a ≤ result) × (b ≤ result) }
-    ensures by_index { (n : ℕ) → a ≤ n → b ≤ n → result ≤ n }
-{
-    if a < b { b } else { a }
+// Which of the three holders a node depends on.
+#[derive(Clone, Copy)]
+pub struct On {
+    pub lane: bool,
+    pub row: bool,
+    pub outer: bool,
 }
 
-// The holder whose values a comparison's bits stand for.
-fn lane_for(lane: u8, row: u8, outer: u8, onlane: bool, onrow: bool) -> u8
-    ensures { result ≡ lane_for lane row outer onlane onrow }
-{
-    if onlane {
-        return lane;
-    }
-    if onrow { row } else { outer }
+// Which nodes of a formula depend on each of the three holders.
+#[derive(Clone, Copy)]
+pub struct Marks {
+    pub lane: [bool; 64],
+    pub row: [bool; 64],
+    pub outer: [bool; 64],
 }
 
-// The holder whose values its rows stand for.
-fn row_for(lane: u8, row: u8, outer: u8, onlane: bool, onrow: bool) -> u8
-    ensures { result ≡ row_for lane row outer onlane onrow }
-{
-    if !onlane {
-        return outer;
+impl Marks {
+    ghost use Rattle.tables.specs.Tables.{marks_at};
+
+    // Which of the three node k depends on.
+    pub fn at(&self, k: usize) -> On
+        requires { k < 64 }
+        ensures { result ≡ marks_at self.now k }
+    {
+        On {
+            lane: self.lane[k],
+            row: self.row[k],
+            outer: self.outer[k],
+        }
     }
-    if onrow { row } else { outer }
 }
 
-// How many rows it has, by how many values of the row holder and of the outer holder are told apart.
-fn rows_for(rows: usize, outers: usize, onlane: bool, onrow: bool, onouter: bool) -> usize
-    ensures { result ≡ cond (onlane && onrow) rows (cond (onouter && (onlane || onrow)) outers 1) }
-{
-    if onlane & onrow {
-        return rows;
-    }
-    if onouter & (onlane | onrow) {
-        return outers;
-    }
-    1
+// What the tables of a formula go by: the lists, which holder has which part, how many values of the row holder and of the outer holder are told apart,
+// and for how many rows each table has place.
+#[derive(Clone, Copy)]
+pub struct Layout {
+    pub classes: Classes,
+    pub roles: Roles,
+    pub rows: usize,
+    pub outers: usize,
+    pub room: usize,
+    pub ghost rows_told: { rows ≡ room_of (lists_of classes) roles.row },
+    pub ghost outers_told: { outers ≡ room_of (lists_of classes) roles.outer },
+    pub ghost rows_in_range: { (0 < rows) × (rows ≤ 256) },
+    pub ghost outers_in_range: { (0 < outers) × (outers ≤ 256) },
+    pub ghost larger_room: { room ≡ max rows outers },
 }
 
-// The table of a node, from row `base` on.
-fn table(
-    area: &mut [u64],
-    base: usize,
-    classes: Classes,
-    lane: u8,
-    row: u8,
-    outer: u8,
-    rows: usize,
-    outers: usize,
-    node: u32,
-    onlane: bool,
-    onrow: bool,
-    onouter: bool,
-    room: usize,
-)
-    requires room_nonzero { (0 < room) × (room ≤ 256) × (rows ≤ room) × (outers ≤ room) × (4 * (base + room) ≤ length area.old) }
-    requires rows_value { (rows ≡ room_of (lists_of classes) row) × (outers ≡ room_of (lists_of classes) outer) }
-    ensures table { Table (lists_of classes) lane row outer onlane onrow onouter node base area.old area.new }
-    ensures area_len_unchanged { length area.new ≡ length area.old }
-{
-    if node / 65536 < 5 {
-        return;
-    }
-    let count = rows_for(rows, outers, onlane, onrow, onouter);
-    let a = lane_for(lane, row, outer, onlane, onrow);
-    let b = row_for(lane, row, outer, onlane, onrow);
-    fill(area, base, count, classes, a, b, node);
-}
+impl Layout {
+    ghost use Rattle.prepared.specs.Prepared.{table_at, lane_for, row_for, rows_for};
+    ghost use Rattle.tables.specs.Tables.{Table, Tables};
 
-// The tables of the n nodes of formula f.
-pub fn fill_tables(
-    area: &mut [u64],
-    classes: Classes,
-    lane: u8,
-    row: u8,
-    outer: u8,
-    rows: usize,
-    outers: usize,
-    nodes: &[u32],
-    f: usize,
-    n: usize,
-    onlane: &[bool],
-    onrow: &[bool],
-    onouter: &[bool],
-    room: usize,
-)
-    requires n_bound { (n ≤ 64) × (n ≤ length onlane.now) × (n ≤ length onrow.now) × (n ≤ length onouter.now) }
-    requires room_nonzero { (0 < room) × (room ≤ 256) × (rows ≤ room) × (outers ≤ room) × (4 * (193 + 64 * room) ≤ length area.old) }
-    requires rows_value { (rows ≡ room_of (lists_of classes) row) × (outers ≡ room_of (lists_of classes) outer) }
-    ensures tables { Tables (lists_of classes) lane row outer onlane.now onrow.now onouter.now (λ k. get_or nodes.now (64 * f + k) 0) room n area.old area.new }
-    ensures area_len_unchanged { length area.new ≡ length area.old }
-{
-    for k in 0..n {
-        let node = formulas::node::at(nodes, f, k);
-        table(
-            area,
-            193 + k * room,
+    // By the lists and the holders.
+    pub fn new(classes: Classes, roles: Roles) -> Self
+        ensures classes { result.classes ≡ classes }
+        ensures roles { result.roles ≡ roles }
+    {
+        let rows = room_of(classes, roles.row);
+        let outers = room_of(classes, roles.outer);
+        Layout {
             classes,
-            lane,
-            row,
-            outer,
+            roles,
             rows,
             outers,
+            room: rows.max(outers),
+        }
+    }
+
+    // Where the table of node k begins.
+    #[tactic(auto, unfolding(prepared::specs::Prepared::table_at))]
+    pub fn table_at(&self, k: usize) -> usize
+        requires { k < 64 }
+        ensures { result ≡ table_at self.now.room k }
+    {
+        193 + k * self.room
+    }
+
+    // The holder whose values a comparison's bits stand for.
+    #[tactic(auto, unfolding(prepared::specs::Prepared::lane_for))]
+    fn lane_for(&self, on: On) -> u8
+        ensures { result ≡ lane_for self.now.roles.lane self.now.roles.row self.now.roles.outer on.lane on.row }
+    {
+        if on.lane {
+            self.roles.lane
+        } else if on.row {
+            self.roles.row
+        } else {
+            self.roles.outer
+        }
+    }
+
+    // The holder whose values its rows stand for.
+    #[tactic(auto, unfolding(prepared::specs::Prepared::row_for))]
+    fn row_for(&self, on: On) -> u8
+        ensures { result ≡ row_for self.now.roles.lane self.now.roles.row self.now.roles.outer on.lane on.row }
+    {
+        if on.lane && on.row {
+            self.roles.row
+        } else {
+            self.roles.outer
+        }
+    }
+
+    // How many rows it has.
+    #[tactic(auto, unfolding(prepared::specs::Prepared::rows_for, prepared::specs::Prepared::row_for))]
+    fn rows_for(&self, on: On) -> usize
+        ensures { result ≡ rows_for (lists_of self.now.classes) self.now.roles.lane self.now.roles.row self.now.roles.outer on.lane on.row on.outer }
+    {
+        if on.lane && on.row {
+            self.rows
+        } else if on.outer && (on.lane || on.row) {
+            self.outers
+        } else {
+            1
+        }
+    }
+
+    // The table of a node, from row `base` on.
+    fn table(&self, area: &mut [u64], base: usize, node: u32, on: On)
+        requires { 4 * (base + self.now.room) ≤ length area.old }
+        ensures table { Table (lists_of self.now.classes) self.now.roles.lane self.now.roles.row self.now.roles.outer on.lane on.row on.outer node base area.old area.new }
+        ensures area_len_unchanged { length area.new ≡ length area.old }
+    {
+        if node / 65536 < 5 {
+            return;
+        }
+        fill(
+            area,
+            base,
+            self.rows_for(on),
+            self.classes,
+            self.lane_for(on),
+            self.row_for(on),
             node,
-            onlane[k],
-            onrow[k],
-            onouter[k],
-            room,
         );
     }
-}
 
-// Where each table begins.
-pub fn places(room: usize, n: usize, bases: &mut [u64])
-    requires { (n ≤ 64) × (room ≤ 256) × (n ≤ length bases.old) }
-    ensures by_index { (k : ℕ) → k < n → get_or bases.new k 0 ≡ table_at room k }
-    ensures bases_len_unchanged { length bases.new ≡ length bases.old }
-{
-    for k in 0..n {
-        bases[k] = (193 + k * room) as u64;
+    // The tables of the nodes.
+    pub fn fill_tables(&self, area: &mut [u64], nodes: &[u32], marks: &Marks)
+        requires few { length nodes.now ≤ 64 }
+        requires area_long { 4 * (193 + 64 * self.now.room) ≤ length area.old }
+        ensures tables { Tables (lists_of self.now.classes) self.now.roles.lane self.now.roles.row self.now.roles.outer marks.now.lane marks.now.row marks.now.outer (λ k. get_or nodes.now k 0) self.now.room (length nodes.now) area.old area.new }
+        ensures area_len_unchanged { length area.new ≡ length area.old }
+    {
+        for (k, node) in nodes.iter().enumerate() {
+            self.table(area, self.table_at(k), *node, marks.at(k));
+        }
     }
 }

@@ -49,22 +49,19 @@ any-has users v = refl
 
 -- who is named for a session value
 
-pub name-is : (by seen : List ℕ) (u asked v : ℕ) → name_after by seen u asked v ≡ cond (lane_of seen v && (eqb (get_or by v 0) 0 || eqb u asked)) (u + 1) (get_or by v 0)
+pub name-is : (by seen : List ℕ) (u : ℕ) (asked : Bool) (v : ℕ) → name_after by seen u asked v ≡ cond (lane_of seen v && (eqb (get_or by v 0) 0 || asked)) (u + 1) (get_or by v 0)
 unfolding name_after
 name-is by seen u asked v = refl
 
 -- the values below n are named anew, and the others are as they were
-pub record Renamed (by seen : List ℕ) (u asked : ℕ) (r : List ℕ) (n : ℕ) : Type 0 where
+pub record Renamed (by seen : List ℕ) (u : ℕ) (asked : Bool) (r : List ℕ) (n : ℕ) : Type 0 where
   pub long : length r ≡ 256
   pub done : (v : ℕ) → v < n → get_or r v 0 ≡ name_after by seen u asked v
   pub rest : (v : ℕ) → n ≤ v → get_or r v 0 ≡ get_or by v 0
 
-module _ (by seen : List ℕ) (u asked : ℕ) where
-  pub renamed-none : length by ≡ 256 → Renamed by seen u asked by 0
-  renamed-none l = record { long = l; done = λ v h. absurd (omega arith); rest = λ v h. refl }
-
+module _ (by seen : List ℕ) (u : ℕ) (asked : Bool) where
   pub renamed-more : (r : List ℕ) (n : ℕ) → n < 256 → Renamed by seen u asked r n → (x : ℕ)
-      → x ≡ cond (lane_of seen n && (eqb (get_or r n 0) 0 || eqb u asked)) (u + 1) (get_or r n 0) → Renamed by seen u asked (set r n x) (n + 1)
+      → x ≡ cond (lane_of seen n && (eqb (get_or r n 0) 0 || asked)) (u + 1) (get_or r n 0) → Renamed by seen u asked (set r n x) (n + 1)
   renamed-more r n h s x e =
       record {
         long = length-set r n x ∙ s.long;
@@ -75,7 +72,7 @@ module _ (by seen : List ℕ) (u asked : ℕ) where
       go : (v : ℕ) → v < n + 1 → Dec (v ≡ n) → get_or (set r n x) v 0 ≡ name_after by seen u asked v
       go v b (yes i) =
           ap (λ (k : ℕ). get_or (set r n x) k 0) i ∙ get_or-set_same r n x 0 (omega (arith, s.long)) ∙ e
-          ∙ ap (λ (k : ℕ). cond (lane_of seen n && (eqb k 0 || eqb u asked)) (u + 1) k) (s.rest n (omega arith))
+          ∙ ap (λ (k : ℕ). cond (lane_of seen n && (eqb k 0 || asked)) (u + 1) k) (s.rest n (omega arith))
           ∙ sym (name-is by seen u asked n) ∙ ap (name_after by seen u asked) (sym i)
       go v b (no d) = get_or-set_other r n v x 0 d ∙ s.done v (omega arith)
 
@@ -111,11 +108,11 @@ naming-none users =
     zeros v h = get_or-replicate {A = ℕ} 256 v 0 0 h
 
 -- one value, when user u is named
-module _ (users : List Found) (by seen : List ℕ) (u asked : ℕ) (s : Naming users by u) (e : (user_found users u).seen ≡ seen) where
+module _ (users : List Found) (by seen : List ℕ) (u : ℕ) (asked : Bool) (s : Naming users by u) (e : (user_found users u).seen ≡ seen) where
   abbrev Named : ℕ → ℕ → Type 0
   Named v n = (not (eqb n 0) ≡ some_has users (u + 1) v) × (n ≤ u + 1) × (not (eqb n 0) ≡ true → lane_of (user_found users (n - 1)).seen v ≡ true)
 
-  name-value : (v : ℕ) → v < 256 → (l z : Bool) → lane_of seen v ≡ l → eqb (get_or by v 0) 0 ≡ z → Named v (cond (l && (z || eqb u asked)) (u + 1) (get_or by v 0))
+  name-value : (v : ℕ) → v < 256 → (l z : Bool) → lane_of seen v ≡ l → eqb (get_or by v 0) 0 ≡ z → Named v (cond (l && (z || asked)) (u + 1) (get_or by v 0))
   name-value v h false z el ez = (
     sym (name-as by v _ refl) ∙ s.named-is v h ∙ keep (some_has users u v) ∙ sym (some_more _ u ∙ ap (λ (b : Bool). some_has users u v || b) (lane ∙ el)),
     omega (arith, s.few v h),
@@ -128,7 +125,7 @@ module _ (users : List Found) (by seen : List ℕ) (u asked : ℕ) (s : Naming u
       keep : (b : Bool) → b ≡ b || false
       keep true = refl
       keep false = refl
-  name-value v h true z el ez = go z ez (eqb u asked)
+  name-value v h true z el ez = go z ez asked
     where
       either : (b : Bool) → true ≡ b || true
       either true = refl
@@ -162,7 +159,7 @@ module _ (users : List Found) (by seen : List ℕ) (u asked : ℕ) (s : Naming u
       }
     where
       value : ℕ → ℕ
-      value v = cond (lane_of seen v && (eqb (get_or by v 0) 0 || eqb u asked)) (u + 1) (get_or by v 0)
+      value v = cond (lane_of seen v && (eqb (get_or by v 0) 0 || asked)) (u + 1) (get_or by v 0)
 
       at : (v : ℕ) → v < 256 → get_or r v 0 ≡ value v
       at v h = ap (λ (l : List ℕ). get_or l v 0) is ∙ get_or-tab _ 0 256 v 0 h ∙ ap (name_after by seen u asked) (omega arith) ∙ name-is by seen u asked v

@@ -3,28 +3,17 @@ use mathlib.Core.Path.{◌≡◌, refl, ap, ◌∙◌}
 use mathlib.Core.Bool.{Bool, true, false, ◌&&◌}
 use mathlib.Core.List.{List, [], ◌∷◌}
 use mathlib.Core.Logic.{⊎_elim}
-use Prim.Native.Nat.{ℕ, zero, suc, ◌+◌, ◌≤◌, ◌<◌}
+use Prim.Native.Nat.{ℕ, zero, suc, ◌≤◌, ◌<◌}
 use native.Mathlib.Omega.{arith}
 use lib.ListN.{length, get_or, get_or-eq_default}
-use Rattle.bits.proofs.Packed.{get_or-tab}
 use Rattle.lanes.specs.Lanes.{lane_of}
 use Rattle.lanes.proofs.Words.{lane_past}
 use Rattle.lanes.proofs.Laws.{lt-or-ge}
 use Rattle.policy.specs.Policy.{Session}
-use Rattle.policy.specs.Rules.{sessions_of}
-use Rattle.policy.specs.declared.Sessions.{Sessions}
 use Rattle.search.specs.Queue.{nothing}
 use Rattle.search.specs.declared.queue.Found.{Found}
 use Rattle.search.proofs.Turns.{nothing_seen, nothing-sized}
 use Rattle.user_results.specs.Found.{user_found, all_found}
-
--- starting sessions
-
-pub session-at : (t : Sessions) (k : ℕ) (d : Session) → k < t.count → get_or (sessions_of t) k d ≡ record { user = get_or t.users k 0; value = get_or t.values k 0 }
-unfolding sessions_of
-session-at t k d h =
-    get_or-tab _ 0 t.count k d h
-    ∙ ap (λ (j : ℕ). let s : Session = record { user = get_or t.users j 0; value = get_or t.values j 0 } in s) (let z : 0 + k ≡ k = omega arith in z)
 
 -- whether a starting session's value was found by its user's search
 abbrev pub brought : List Found → Session → Bool

@@ -33,8 +33,8 @@ pub record Names (users : List Found) (by : List ℕ) : Type 0 where
   pub has : (v : ℕ) → v < 256 → named by v ≡ true → lane_of (user_found users (get_or by v 0 - 1)).seen v ≡ true
 
 -- who is named for value v after user u is: u where it can have v and none is named yet, or u is asked about
-unfoldable pub name_after : List ℕ → List ℕ → ℕ → ℕ → ℕ → ℕ
-name_after by seen u asked v = cond (lane_of seen v && (eqb (get_or by v 0) 0 || eqb u asked)) (u + 1) (get_or by v 0)
+unfoldable pub name_after : List ℕ → List ℕ → ℕ → Bool → ℕ → ℕ
+name_after by seen u asked v = cond (lane_of seen v && (eqb (get_or by v 0) 0 || asked)) (u + 1) (get_or by v 0)
 
 -- how many pairs the first n users' searches have found
 unfoldable pub found_pairs : List Found → ℕ → ℕ

@@ -5,12 +5,13 @@ use Rattle.allowed_rows.proofs.basis_of.Goals as goal
 
 pub returns : goal.returns
 returns c =
-    let a = c.args in
+    let r = c.args.rules.now in
     record {
       classes = refl;
       users = refl;
       permissions = refl;
       lengths = refl;
-      sessions = rw (model-session-value a.rules) c.values_of-sessions.ensures;
-      items = rw (model-item-value a.rules) c.values_of-items.ensures;
+      nodes = refl;
+      sessions = rw (model-session-value r) c.values_of.ensures;
+      items = rw (model-item-value r) c.values_of-2.ensures;
     }

@@ -13,9 +13,6 @@ returns-then-out-k c =
     let a = c.args in
     sym (put_full a.out.now a.pos a.w a.x (omega arith))
 
-pub kept-v-requires : goal.kept-v-requires
-kept-v-requires c = λ h. omega arith
-
 pub loop-free-init : goal.loop-free-init
 loop-free-init c =
     let a = c.args in
@@ -38,9 +35,6 @@ loop-free-preserved c =
       length-set l.out _ _ ∙ l.invariant.2,
       simp (c.low_byte.ensures, c.high_bits.ensures, y.ensures, l.invariant.1, l.invariant.3) (fill a.out.now a.x (omega arith) l.invariant.0 t),
     )
-
-pub shape_of-out-then-left-gt0 : goal.shape_of-out-then-left-gt0
-shape_of-out-then-left-gt0 c = let l = c.loop-free in length-set l.out _ _ ∙ l.invariant.2
 
 pub returns-then-left-gt0 : goal.returns-then-left-gt0
 returns-then-left-gt0 c =

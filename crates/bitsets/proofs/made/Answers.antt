@@ -1,38 +1,10 @@
 -- `bitsets::made` meets its contract: one law for each thing that a step does.
-use native.Mathlib.Omega.{arith}
+use borrow.Author.Rules.{rules}
 use Rattle.lanes.proofs.Laws.{lanes-as}
 use Rattle.bitsets.specs.Rows.{bit_at}
 use Rattle.bitsets.specs.Steps.{does_of, left_of, right_of}
 use Rattle.bitsets.proofs.Steps.{made-true, made-not, made-and, made-or, made-bit, made_table, made_none}
 use Rattle.bitsets.proofs.made.Goals as goal
-
-pub load-requires : goal.load-requires
-unfolding left_of
-load-requires c = c.requires.left
-
-pub load-requires-in-3 : goal.load-requires-in-3
-unfolding left_of
-load-requires-in-3 c = c.requires.left
-
-pub load-requires-in-3-2 : goal.load-requires-in-3-2
-unfolding right_of
-load-requires-in-3-2 c = c.requires.right
-
-pub load-requires-in-4 : goal.load-requires-in-4
-unfolding left_of
-load-requires-in-4 c = c.requires.left
-
-pub load-requires-in-4-2 : goal.load-requires-in-4-2
-unfolding right_of
-load-requires-in-4-2 c = c.requires.right
-
-pub bit-requires : goal.bit-requires
-unfolding left_of
-bit-requires c = let p = c.requires in (p.left, omega (arith, p.index))
-
-pub load-requires-in-6 : goal.load-requires-in-6
-unfolding does_of left_of
-load-requires-in-6 c = c.requires.table c.in-6.is
 
 pub returns-in-1 : goal.returns-in-1
 unfolding does_of left_of right_of
@@ -78,6 +50,4 @@ pub returns-in_default : goal.returns-in_default
 unfolding does_of left_of right_of
 returns-in_default c =
     let a = c.args in
-    let m = c.in_default.in_default-own.rest in
-    made_none (bit_at a.area.now) a.i a.s _ m.0.0.0.0.0.1 m.0.0.0.0.1 m.0.0.0.1 m.0.0.1 m.0.1 m.1
-    c.none.ensures
+    made_none (bit_at a.area.now) a.i a.s _ (search rules) (search rules) (search rules) (search rules) (search rules) (search rules) c.none.ensures

@@ -1,44 +1,38 @@
--- `bitsets::run` meets its contract: after j turns the rows are those after j steps, and the area's length is kept. The measure is the steps left.
-use mathlib.Core.Path.{◌≡◌, sym, ◌∙◌, subst}
-use Prim.Native.Nat.{ℕ, ◌+◌}
+-- `bitsets::run` meets its contract: the rows are those after the steps so far, and the area's length is kept.
+use mathlib.Core.Path.{◌≡◌, refl, ◌∙◌, subst}
+use Prim.Native.Nat.{ℕ, ◌+◌, ◌-◌, ◌/◌, ◌%◌}
 use native.Mathlib.Omega.{arith}
-use lib.ListN.{get_or}
-use Rattle.bitsets.specs.Rows.{bit_at, Rows}
-use Rattle.bitsets.specs.Steps.{row_of, Fits, ran}
-use Rattle.bitsets.proofs.Steps.{ran-start, ran-turn}
+use lib.ListN.{get_or, take, drop}
 use borrow.Author.Rules.{rules}
+use Rattle.std.proofs.lemmas.List.{places}
+use Rattle.lanes.specs.Lanes.{Lanes, lane_of}
+use Rattle.bitsets.specs.Rows.{bit_at, Rows, put}
+use Rattle.bitsets.specs.Steps.{row_of, step_says}
+use Rattle.bitsets.proofs.Steps.{ran-start, ran-turn}
 use Rattle.bitsets.proofs.run.Goals as goal
 
-pub loop-j-init : goal.loop-j-init
-loop-j-init c = let a = c.args in (search rules, search rules, ran-start a.steps.now a.first a.i a.area.now)
-
-pub made-x-requires : goal.made-x-requires
-made-x-requires c =
-    let l = c.loop-j in
-    subst (λ (n : ℕ). Fits n c.args.i (get_or c.args.steps.now (c.args.first + l.j) 0)) (sym l.invariant.1)
-    (c.requires.by_index l.j c.loop-j-test.true)
+pub loop-s-init : goal.loop-s-init
+loop-s-init c = let a = c.args in (refl, ran-start a.steps.now a.first a.i a.area.now)
 
 pub store-requires : goal.store-requires
 unfolding row_of
 store-requires c =
-    let l = c.loop-j in
-    omega (arith, l.invariant.1, (c.requires.by_index l.j c.loop-j-test.true).own)
+    let a = c.args in
+    let l = c.loop-s in
+    let e : get_or (take (a.first + a.m - a.first) (drop a.first a.steps.now)) l.s-index 0 ≡ get_or a.steps.now (a.first + l.s-index) 0 = search (rules, places) in
+    omega (arith, e, l.invariant.0, (c.requires.by_index l.s-index (omega arith)).own)
 
-pub loop-j-preserved : goal.loop-j-preserved
+pub loop-s-preserved : goal.loop-s-preserved
 unfolding row_of
-loop-j-preserved c =
+loop-s-preserved c =
     let a = c.args in
-    let l = c.loop-j in
+    let l = c.loop-s in
     let w = c.store in
-    let fits = c.requires.by_index l.j c.loop-j-test.true in (
-      search rules,
-      w.ensures.area_len_unchanged ∙ l.invariant.1,
-      ran-turn a.steps.now a.first a.i l.j (bit_at a.area.now) l.area w.new.area _
-          fits.index l.invariant.2 c.made-x.ensures w.ensures.rows,
+    let s = get_or a.steps.now (a.first + l.s-index) 0 in
+    let e : get_or (take (a.first + a.m - a.first) (drop a.first a.steps.now)) l.s-index 0 ≡ s = search (rules, places) in
+    let X : Lanes (step_says (bit_at l.area) a.i s) c.made-x.result = subst (λ (s : ℕ). Lanes (step_says (bit_at l.area) a.i s) c.made-x.result) e c.made-x.ensures in
+    let W : Rows (put (s / 4294967296 % 65536) (lane_of c.made-x.result) (bit_at l.area)) w.new.area =
+    subst (λ (s : ℕ). Rows (put (s / 4294967296 % 65536) (lane_of c.made-x.result) (bit_at l.area)) w.new.area) e w.ensures.rows in (
+      w.ensures.area_len_unchanged ∙ l.invariant.0,
+      ran-turn a.steps.now a.first a.i l.s-index (bit_at a.area.now) l.area w.new.area _ (c.requires.by_index l.s-index (omega arith)).index l.invariant.1 X W,
     )
-
-pub returns : goal.returns
-returns c =
-    let l = c.loop-j in
-    let a = c.args in
-    let e : l.j ≡ a.m = omega arith in record { rows = subst (λ (k : ℕ). Rows (ran a.steps.now a.first a.i k (bit_at a.area.now)) l.area) e l.invariant.2; area_len_unchanged = l.invariant.1 }

@@ -1,16 +1,11 @@
 -- `bitsets::store` meets its contract: the four words of row k are those of x, and all other words are as before.
-use native.Mathlib.Omega.{arith}
-use Rattle.bitsets.proofs.Words.{one-long, two-long, three-long, stored-long, rows-stored}
+use mathlib.Core.Logic.{⊎_elim}
+use borrow.Author.Rules.{rules}
+use Rattle.std.proofs.lemmas.List.{places}
+use Rattle.bitsets.proofs.Words.{rows-stored}
 use Rattle.bitsets.proofs.store.Goals as goal
 
-pub bounds-area-k-2 : goal.bounds-area-k-2
-bounds-area-k-2 c = let a = c.args in omega (arith, one-long a.area.now a.k a.x)
-
-pub bounds-area-k-3 : goal.bounds-area-k-3
-bounds-area-k-3 c = let a = c.args in omega (arith, two-long a.area.now a.k a.x)
-
-pub bounds-area-k-4 : goal.bounds-area-k-4
-bounds-area-k-4 c = let a = c.args in omega (arith, three-long a.area.now a.k a.x)
-
-pub returns : goal.returns
-returns c = let a = c.args in record { rows = rows-stored a.area.now a.k a.x (omega arith); area_len_unchanged = stored-long a.area.now a.k a.x }
+pub returns-clause-rows : goal.returns-clause-rows
+returns-clause-rows c =
+    let a = c.args in
+    rows-stored a.area.now _ a.x a.k (λ q h. search (rules, places)) (λ p. ⊎_elim (λ h. search (rules, places)) (λ h. search (rules, places)))

@@ -1,24 +1,18 @@
 -- `decision::write_rows` meets its contract.
-use Prim.Native.Nat.{◌<◌}
-use native.Mathlib.Omega.{arith}
-use Rattle.policy.proofs.Laws.{sessions-length}
+use Rattle.std.proofs.Common.{arith}
 use Rattle.decision.proofs.Decided.{leak-left}
-use borrow.Author.Rules.{rules}
 use Rattle.decision.proofs.write_rows.Goals as goal
 
-pub write_leak-end-requires : goal.write_leak-end-requires
-write_leak-end-requires c =
-    let few-sessions : c.args.starting.count < 256 =
-    search rules in
-    let pen = c.first_pen-pen in
-    (omega (arith, pen.ensures.at), omega (arith, pen.ensures.next, sessions-length c.args.starting, few-sessions), c.requires)
+pub write_leak-requires : goal.write_leak-requires
+write_leak-requires c = let pen = c.first_pen-pen.ensures in (omega (arith, pen.ready.at), omega (arith, pen.few), c.requires)
 
 pub returns : goal.returns
 returns c =
-    let wrote = c.write_leak-end in
-    let aim = c.aim_of-aimed in
+    let a = c.args in
+    let r = a.rules.now in
     let pen = c.first_pen-pen in
     let by = c.name_users-by in
-    let a = c.args in
-    leak-left a.users a.starting a.items a.q a.found a.own a.hit.place a.hit.value _ _
-    by.result by.ensures pen.result pen.ensures aim.result aim.ensures wrote.result wrote.ensures.rows_after wrote.ensures.wrote
+    let aim = c.aim_of-aimed in
+    let wrote = c.write_leak in
+    leak-left a.users.now r.sessions r.items a.q a.found.now a.own.now a.hit.place a.hit.value _ _ by.result by.ensures pen.result pen.ensures.ready aim.result aim.ensures
+    wrote.new.pen wrote.ensures.rows_after wrote.ensures.wrote

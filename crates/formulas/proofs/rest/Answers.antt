@@ -1,6 +1,6 @@
 -- `formulas::rest` meets its contract. The loop's invariant: whatever lists and values the two tables are of, if the answers of
 -- the first nodes stood in the array where the loop began, those of the first i nodes stand in it now, and last is the newest of them.
--- The measure is what is left of the count.
+--
 use mathlib.Core.Path.{◌≡◌, sym, ap, ◌∙◌}
 use native.Mathlib.Omega.{arith}
 use Rattle.policy.specs.Rules.{nodes_of, lists_of}
@@ -9,9 +9,6 @@ use Rattle.formulas.specs.Meaning.{node_says}
 use Rattle.formulas.proofs.Laws.{says-over, said-next, said_all, nodes-at}
 use borrow.Author.Rules.{rules}
 use Rattle.formulas.proofs.rest.Goals as goal
-
-pub loop-i-init : goal.loop-i-init
-loop-i-init c = (search rules, search rules, search rules, λ l v e d s. s)
 
 pub loop-i-preserved : goal.loop-i-preserved
 loop-i-preserved c =

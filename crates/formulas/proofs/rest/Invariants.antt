@@ -1,8 +1,8 @@
 -- `formulas::rest` meets its contract. The loop's invariant: whatever lists and values the two tables are of, if the answers of
 -- the first nodes stood in the array where the loop began, those of the first i nodes stand in it now, and last is the newest of them.
--- The measure is what is left of the count.
+--
 use mathlib.Core.Path.{◌≡◌}
-use Prim.Native.Nat.{◌-◌, ◌≤◌}
+use Prim.Native.Nat.{◌≤◌}
 use lib.ListN.{length}
 use Rattle.bits.specs.Packed.{tab}
 use Rattle.policy.specs.Policy.{Lists}
@@ -16,6 +16,3 @@ abbrev pub invariant-loop-i : goal.invariant-loop-i
 invariant-loop-i l =
     (l.i ≤ l.i-end) × (l.i-end ≡ l.n) × (length l.before ≡ 256)
     × ((c : Lists) (v : Holders) → l.values ≡ tab (operand c v) 0 256 → l.sizes ≡ tab (size_of_operand c) 0 256 → Said c v (nodes_of l.nodes l.f l.n) l.initial.i l.initial.before l.initial.last → Said c v (nodes_of l.nodes l.f l.n) l.i l.before l.last)
-
-abbrev pub decreases-loop-i : goal.decreases-loop-i
-decreases-loop-i l = l.i-end - l.i

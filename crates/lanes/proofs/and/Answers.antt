@@ -1,9 +1,10 @@
 -- `lanes::and` meets its contract, word by word.
 use mathlib.Core.Bool.{◌&&◌}
 use lib.Bits.{bit_and}
+use borrow.Author.Rules.{rules}
 use Rattle.lanes.proofs.Bits.{bit-and}
 use Rattle.lanes.proofs.Words.{word-op}
 use Rattle.lanes.proofs.and.Goals as goal
 
 pub returns : goal.returns
-returns c = word-op ◌&&◌ bit_and (λ a b k h. bit-and a b k) _ _
+returns c = let w = c.by_words in word-op ◌&&◌ bit_and (λ a b k p q h. bit-and a b k) _ _ w.result (search rules) (λ q h. let e = w.ensures.words q h in search rules) w.ensures.below

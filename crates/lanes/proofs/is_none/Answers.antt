@@ -1,7 +1,7 @@
--- `lanes::is_none` meets its contract: the four words together have no bit.
-use mathlib.Core.Path.{◌∙◌}
+-- `lanes::is_none` meets its contract: no lane is set where each word is 0.
+use borrow.Author.Rules.{rules}
 use Rattle.lanes.proofs.Words.{none-words}
 use Rattle.lanes.proofs.is_none.Goals as goal
 
 pub returns : goal.returns
-returns c = c.no_bit.ensures ∙ none-words c.args.x
+returns c = none-words c.args.x c.all.result (λ t q h. search rules) (λ t. search rules)

@@ -11,5 +11,5 @@ returns-then-j-i c =
     let a = c.args in
     lanes-as _ _ _ c.load.ensures
     (λ v h.
-    c.requires.i_bound.2.each f.result v c.if-j-i.true h
-    ∙ ap₂ (λ (x y : Operand). compared_in a.op x y v) f.ensures.result_value f.ensures.result_value_2)
+    c.requires.filled.2.each f.result v c.if-j-i.true h
+    ∙ ap₂ (λ (x y : Operand). compared_in a.op x y v) f.ensures.first_same f.ensures.second_same)

@@ -3,7 +3,7 @@ use mathlib.Core.Path.{◌≡◌, sym, ap, ◌∙◌}
 use mathlib.Core.List.{List}
 use Prim.Native.Nat.{ℕ, min}
 use lib.ListN.{length}
-use Rattle.analyser.specs.Told.{told_of}
+use Rattle.analyser.specs.Told.{told_of, rows_of}
 use Rattle.output.specs.Lines.{row_line, line_at}
 use Rattle.output.specs.Put.{over}
 use Rattle.output.proofs.Laws.{line_at-row}
@@ -18,9 +18,10 @@ returns-then-i-eq0 c =
 pub returns : goal.returns
 returns c =
     let y = c.row_line in
-    let x = c.row_at in
+    let x = c.get_or in
     let p = c.args in
-    let t = told_of p.a.verdict p.a.pairs p.a.values in
-    let e : row_line x.result ≡ line_at t p.a.rows p.rows.now p.i
-    = ap row_line x.ensures ∙ sym (line_at-row t p.a.rows p.rows.now p.i c.if-i-eq0.false)
+    let t = told_of p.answered in
+    let n = rows_of p.answered in
+    let e : row_line x.result ≡ line_at t n p.rows.now p.i
+    = ap row_line x.ensures ∙ sym (line_at-row t n p.rows.now p.i c.if-i-eq0.false)
     in record { value = y.ensures.value ∙ ap (λ (l : List ℕ). min (length l) (length p.out.now)) e; out_after = y.ensures.out_after ∙ ap (λ (l : List ℕ). over l p.out.now) e }

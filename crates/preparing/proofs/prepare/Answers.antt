@@ -1,9 +1,17 @@
 -- `preparing::prepare` meets its contract.
-use native.Mathlib.Omega.{arith}
+use Rattle.preparing.proofs.Own.{own-nodes, own-depends}
 use Rattle.preparing.proofs.prepare.Goals as goal
 
-pub prepare_with-requires : goal.prepare_with-requires
-prepare_with-requires c =
-    let x = c.depends.ensures in
-    let y = c.depends-2.ensures in
-    let z = c.depends-3.ensures in record { n_bound = (c.requires.n_bound.0, c.requires.n_bound.1, omega (arith, c.requires, x.d_len_unchanged), omega (arith, c.requires, y.d_len_unchanged), omega (arith, c.requires, z.d_len_unchanged)); fact = c.requires.fact; row_in_bounds = c.requires.row_in_bounds; depends = x.depends; depends_2 = y.depends; depends_3 = z.depends }
+pub prepare_with-requires-clause-on_lane : goal.prepare_with-requires-clause-on_lane
+prepare_with-requires-clause-on_lane c = own-depends c.args.nodes.now c.args.f c.args.n c.requires.few _ c.places_of-places.ensures _ _ c.depending.ensures
+
+pub prepare_with-requires-clause-on_row : goal.prepare_with-requires-clause-on_row
+prepare_with-requires-clause-on_row c = own-depends c.args.nodes.now c.args.f c.args.n c.requires.few _ c.places_of-places.ensures _ _ c.depending-2.ensures
+
+pub prepare_with-requires-clause-on_outer : goal.prepare_with-requires-clause-on_outer
+prepare_with-requires-clause-on_outer c = own-depends c.args.nodes.now c.args.f c.args.n c.requires.few _ c.places_of-places.ensures _ _ c.depending-3.ensures
+
+pub returns-clause-prepared : goal.returns-clause-prepared
+returns-clause-prepared c =
+    rw (← c.new-layout.ensures.classes, ← c.new-layout.ensures.roles, ← own-nodes c.args.nodes.now c.args.f c.args.n c.requires.few _ c.places_of-places.ensures)
+    c.prepare_with.ensures.prepared

@@ -1,4 +1,4 @@
--- `sides::right_of` meets its contract. The loop's invariant: right is the width of the attributes from j on. The measure is j.
+-- `sides::right_of` meets its contract. The loop's invariant: right is the width of the attributes from j on.
 use mathlib.Core.Path.{◌≡◌}
 use Prim.Native.Nat.{◌+◌, ◌*◌, ◌-◌, ◌≤◌}
 use lib.ListN.{drop}
@@ -8,7 +8,4 @@ use Rattle.sides.proofs.right_of.Given as goal
 
 abbrev pub invariant-loop-j : goal.invariant-loop-j
 invariant-loop-j l =
-    (l.k + 1 ≤ l.j) × (l.j ≤ l.class.count) × (l.class.count ≤ 255) × (l.right ≤ 255 * (l.class.count - l.j)) × (l.right ≡ width (drop l.j (attrs_of l.class)))
-
-abbrev pub decreases-loop-j : goal.decreases-loop-j
-decreases-loop-j l = l.j
+    (l.k + 1 ≤ l.j) × (l.right ≤ 255 * (l.class.count - l.j)) × (l.right ≡ width (drop l.j (attrs_of l.class)))

@@ -1,27 +1,26 @@
--- `user_results::name_users` meets its contract. The loop's invariant: one of the users below u is named. The measure is what is left of the 16.
-use mathlib.Core.Path.{◌≡◌, sym, ap}
-use native.Mathlib.Omega.{arith}
-use lib.ListN.{length}
+-- `name_users` meets its contract. The loop's invariant: of the users below u one is named for each value that some of them can have.
+use Rattle.std.proofs.Common.{◌≡◌, length, sym, ap, arith, rules}
 use Rattle.search.specs.Queue.{nothing}
 use Rattle.search.specs.declared.queue.Found.{Found}
-use Rattle.session_rows.proofs.Laws.{get_or_any}
+use Rattle.std.proofs.lemmas.List.{get_or_default}
 use Rattle.user_results.proofs.Laws.{naming-none, naming-more, naming-all}
-use borrow.Author.Rules.{rules}
 use Rattle.user_results.proofs.name_users.Goals as goal
 
 pub loop-u-init : goal.loop-u-init
-loop-u-init c = (search rules, naming-none c.args.users)
+loop-u-init c = naming-none c.args.users.now
 
 pub loop-u-preserved : goal.loop-u-preserved
 loop-u-preserved c =
     let a = c.args in
+    let users = a.users.now in
     let l = c.loop-u in
-    let n : length a.users ≡ 16 = search rules in
-    let same = get_or_any a.users l.u _ nothing (omega arith) in
-    (search rules, naming-more a.users l.by _ l.u a.asked l.invariant.1 (ap (λ (q : Found). q.seen) (sym same)) c.name_user-t.result c.name_user-t.ensures)
+    let n : length users ≡ 16 = search rules in
+    let same = get_or_default users l.u _ nothing (omega arith) in
+    naming-more users l.by _ l.u _ l.invariant (ap (λ (q : Found). q.seen) (sym same)) c.name_user.new.by c.name_user.ensures
 
 pub returns : goal.returns
 returns c =
-    let a = c.args in
+    let users = c.args.users.now in
     let l = c.loop-u in
-    naming-all a.users l.by l.u (omega arith) l.invariant.1
+    let n : length users ≡ 16 = search rules in
+    naming-all users l.by l.u (omega arith) l.invariant

@@ -1,31 +1,13 @@
--- `user_searches::search_user` meets its contract.
-use mathlib.Core.Path.{◌≡◌, ◌∙◌}
-use mathlib.Core.Bool.{cond}
-use mathlib.Core.List.{List}
-use Prim.Native.Nat.{ℕ, ◌≤◌, ◌<◌}
-use borrow.Author.Tests.{lt-ltb, le-ltb}
-use lib.Dec.{ltb}
-use Rattle.allowed_rows.specs.Basis.{rules_by, model_by}
-use Rattle.allowed_rows.specs.declared.Basis.{Basis}
+-- `search_user` meets its contract.
+use Rattle.allowed_rows.specs.Basis.{rules_by}
 use Rattle.allowed.proofs.ModelLaws.{model-users}
-use Rattle.search.specs.Queue.{nothing}
-use Rattle.search.specs.Sessions.{sessions_found}
+use borrow.Author.Tests.{lt-ltb, le-ltb}
 use Rattle.user_searches.proofs.search_user.Goals as goal
 
--- whether there is such a user
-module _ (b : Basis) (nodes : List ℕ) (u : ℕ) where
-  abbrev users : ℕ
-  users = (model_by b nodes).users
+pub returns-then-basis-u-clause-value : goal.returns-then-basis-u-clause-value
+returns-then-basis-u-clause-value c =
+    let a = c.args in simp (model-users (rules_by a.basis.now), le-ltb a.u a.basis.now.users.count c.if-basis-u.true) c.new.ensures
 
-  absent : b.users.count ≤ u → nothing ≡ cond (ltb u users) (sessions_found (model_by b nodes) u) nothing
-  absent h = simp (model-users (rules_by b nodes), le-ltb u b.users.count h)
-
-  there : u < b.users.count → sessions_found (model_by b nodes) u ≡ cond (ltb u users) (sessions_found (model_by b nodes) u) nothing
-  there h = simp (model-users (rules_by b nodes), lt-ltb u b.users.count h)
-
-pub returns-then-basis-u : goal.returns-then-basis-u
-returns-then-basis-u c = record { value = c.nothing.ensures ∙ absent c.args.basis c.args.nodes.now c.args.u c.if-basis-u.true; change_prepared_2 = c.requires.change_prepared }
-
-pub returns : goal.returns
-returns c =
-    let v = c.user_values in record { value = v.ensures.value ∙ there c.args.basis c.args.nodes.now c.args.u c.if-basis-u.false; change_prepared_2 = v.ensures.change_prepared_2 }
+pub returns-clause-value : goal.returns-clause-value
+returns-clause-value c =
+    let a = c.args in simp (model-users (rules_by a.basis.now), lt-ltb a.u a.basis.now.users.count c.if-basis-u.false) c.user_values.ensures.value

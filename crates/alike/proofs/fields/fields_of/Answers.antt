@@ -7,7 +7,7 @@ use Rattle.alike.proofs.fields.fields_of.Goals as goal
 pub returns-then-h-lt8 : goal.returns-then-h-lt8
 returns-then-h-lt8 c =
     let a = c.args in
-    let e = c.lay.ensures in record { shifts_value = shifts-laid (attrs_of a.class) a.h _ refl _ e.filling; bits_value = bits-laid (attrs_of a.class) a.h _ refl _ e.filling_2 }
+    let e = c.lay.ensures in record { shifts_value = shifts-laid (attrs_of a.class) a.h _ refl _ e.shifts; bits_value = bits-laid (attrs_of a.class) a.h _ refl _ e.bits }
 
 pub returns-else-h-lt8 : goal.returns-else-h-lt8
 returns-else-h-lt8 c =

@@ -1,9 +1,9 @@
 -- `alike::fields::lay` meets its contract. The loop's invariant: the places from k on are filled in, in both tables, and left is the width of
--- these attributes. The measure is k.
+-- these attributes.
 use mathlib.Core.Path.{◌≡◌, sym, ap, ◌∙◌}
 use Prim.Native.Nat.{ℕ, suc, ◌+◌, ◌-◌, ◌<◌, ◌≤◌, min}
 use native.Mathlib.Omega.{arith}
-use lib.ListN.{length, get_or, drop}
+use lib.ListN.{length, drop}
 use Rattle.policy.specs.Policy.{no_attr, bits_for, width}
 use Rattle.policy.specs.Rules.{attr_at, attrs_of}
 use Rattle.formulas.specs.Value.{attr_of}
@@ -17,11 +17,9 @@ pub loop-k-init : goal.loop-k-init
 loop-k-init c =
     let a = c.args in
     let l = attrs_of a.class in
-    let r : length a.class.kinds ≡ 8 = search rules in
-    let s : length a.class.sizes ≡ 8 = search rules in
-    let n : length a.class.lists ≡ 8 = search rules in
+    let r : length a.class.attributes ≡ 8 = search rules in
     let e : c.byte_of-k.result ≡ min a.class.count 8 = c.byte_of-k.ensures in
-    let none : (p : ℕ) → c.byte_of-k.result ≤ p → attr_of l p ≡ no_attr = λ p m. none-past a.class p (omega (arith, r)) (omega (arith, s)) (omega (arith, n)) (omega (arith, e)) in (
+    let none : (p : ℕ) → c.byte_of-k.result ≤ p → attr_of l p ≡ no_attr = λ p m. none-past a.class p (omega (arith, r)) (omega (arith, e)) in (
       search rules,
       search rules,
       search rules,
@@ -32,7 +30,6 @@ loop-k-init c =
     )
 
 pub loop-k-preserved : goal.loop-k-preserved
-unfolding attr_at
 loop-k-preserved c =
     let t = c.loop-k in
     let a = c.args in
@@ -40,21 +37,21 @@ loop-k-preserved c =
     let l = attrs_of a.class in
     let e : t.k ≡ k + 1 = omega arith in
     let low : k < a.class.count = omega arith in
-    let own : c.bits_for-own.result ≡ bits_for (attr_at a.class k) = let f = c.bits_for-own.ensures (get_or a.class.lists k 0) in cc in
+    let own : c.bits-own.result ≡ bits_for (attr_at a.class k) = c.bits-own.ensures ∙ ap bits_for c.attribute.ensures in
     let later : t.left ≡ width (drop (k + 1) l) = t.invariant.4 ∙ ap (λ (n : ℕ). width (drop n l)) e in
     let right : c.byte_of-right.result ≡ right_by l a.h k = c.byte_of-right.ensures ∙ right-at l k t.left later in
-    let bits : c.bits_for-own.result ≡ own-by l a.h k = own ∙ ap bits_for (sym (attr-at a.class k low)) in (
+    let bits : c.bits-own.result ≡ own-by l a.h k = own ∙ ap bits_for (sym (attr-at a.class k low)) in (
       search rules,
       search rules,
       search rules,
       search rules,
       omega (arith, later_more a.class k low),
       fill-next (right_by l) a.h a.h _ t.k k c.byte_of-right.result c.byte_of-right.result _ _ (omega arith) (omega arith) t.invariant.5 e (omega arith) (λ n. right) right c.place.ensures,
-      fill-next (own-by l) a.h a.h _ t.k k c.bits_for-own.result c.bits_for-own.result _ _ (omega arith) (omega arith) t.invariant.6 e (omega arith) (λ n. bits) bits c.place-in-loop-k.ensures,
+      fill-next (own-by l) a.h a.h _ t.k k c.bits-own.result c.bits-own.result _ _ (omega arith) (omega arith) t.invariant.6 e (omega arith) (λ n. bits) bits c.place-in-loop-k.ensures,
     )
 
 pub returns : goal.returns
 returns c =
     let a = c.args in
     let t = c.loop-k in
-    let l = attrs_of a.class in record { filling = fill_end (right_by l) a.h a.h _ t.k _ t.invariant.5 (omega arith); filling_2 = fill_end (own-by l) a.h a.h _ t.k _ t.invariant.6 (omega arith) }
+    let l = attrs_of a.class in record { shifts = fill_end (right_by l) a.h a.h _ t.k _ t.invariant.5 (omega arith); bits = fill_end (own-by l) a.h a.h _ t.k _ t.invariant.6 (omega arith) }

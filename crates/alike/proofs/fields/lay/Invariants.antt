@@ -1,5 +1,5 @@
 -- `alike::fields::lay` meets its contract. The loop's invariant: the places from k on are filled in, in both tables, and left is the width of
--- these attributes. The measure is k.
+-- these attributes.
 use mathlib.Core.Path.{◌≡◌}
 use mathlib.Core.List.{List}
 use Prim.Native.Nat.{ℕ, suc, ◌+◌, ◌*◌, ◌-◌, ◌≤◌, min}
@@ -21,6 +21,3 @@ invariant-loop-k here =
     let l = attrs_of here.class in
     (here.k ≤ min here.class.count 8) × (32 * here.h + 32 ≤ length here.shifts) × (32 * here.h + 32 ≤ length here.bits) × (here.left ≤ 255 * (8 - here.k)) × (here.left ≡ width (drop here.k l))
     × Filling (right_by l) here.h here.h here.k here.initial.shifts here.shifts × Filling (own-by l) here.h here.h here.k here.initial.bits here.bits
-
-abbrev pub decreases-loop-k : goal.decreases-loop-k
-decreases-loop-k l = l.k

@@ -2,10 +2,10 @@
 use Rattle.format.specs.Reader.{found_at}
 use Rattle.format.proofs.bit_reader.found_at.Goals as goal
 
-pub returns-in-Value : goal.returns-in-Value
+pub returns-in-Some : goal.returns-in-Some
 unfolding found_at
-returns-in-Value c = simp (← c.field_at-f.ensures, c.in-Value.is)
+returns-in-Some c = simp (← c.field_at-f.ensures, c.in-Some.is)
 
-pub returns-in-Absent : goal.returns-in-Absent
+pub returns-in-None : goal.returns-in-None
 unfolding found_at
-returns-in-Absent c = simp (← c.field_at-f.ensures, c.in-Absent.is)
+returns-in-None c = simp (← c.field_at-f.ensures, c.in-None.is)

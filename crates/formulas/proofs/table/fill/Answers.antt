@@ -1,17 +1,17 @@
 -- `formulas::table::fill` meets its contract. The loop's invariant: the places from k on are filled in, in both tables, and x and y are what stands
--- left of these attributes in v and w. The measure is k.
+-- left of these attributes in v and w.
 use mathlib.Core.Path.{◌≡◌, refl, sym, ap, ◌∙◌}
 use mathlib.Core.Bool.{Bool, cond}
 use Prim.Native.Nat.{ℕ, ◌+◌, ◌-◌, ◌/◌, ◌^◌, ◌<◌, ◌≤◌, min}
 use native.Mathlib.Omega.{arith}
 use borrow.Author.Tests.{eq-eqb, ne_eqb}
 use lib.Dec.{eqb}
-use lib.ListN.{length, get_or, drop}
+use lib.ListN.{length, drop}
 use lib.Pow.{shr_le}
-use Rattle.policy.specs.Policy.{no_attr, bits_for, width}
+use Rattle.policy.specs.Policy.{Attr, no_attr, bits_for, width}
 use Rattle.policy.specs.Rules.{attr_at, attrs_of}
 use Rattle.formulas.specs.Value.{attr_of, part_of}
-use Rattle.formulas.proofs.TableLaws.{fill_start, fill-next, fill_end, none-part, none-size, none-past, later-past, part_at, left_at, size-at}
+use Rattle.formulas.proofs.TableLaws.{fill_start, fill-next, none-part, none-size, none-past, later-past, part_at, left_at, size-at}
 use borrow.Author.Rules.{rules}
 use Rattle.formulas.proofs.table.fill.Invariants.{sizes-by, values-by}
 use Rattle.formulas.proofs.table.fill.Goals as goal
@@ -20,11 +20,9 @@ pub loop-k-init : goal.loop-k-init
 loop-k-init c =
     let a = c.args in
     let l = attrs_of a.class in
-    let r : length a.class.kinds ≡ 8 = search rules in
-    let s : length a.class.sizes ≡ 8 = search rules in
-    let n : length a.class.lists ≡ 8 = search rules in
+    let r : length a.class.attributes ≡ 8 = search rules in
     let e : c.byte_of-k.result ≡ min a.class.count 8 = c.byte_of-k.ensures in
-    let none : (p : ℕ) → c.byte_of-k.result ≤ p → attr_of l p ≡ no_attr = λ p m. none-past a.class p (omega (arith, r)) (omega (arith, s)) (omega (arith, n)) (omega (arith, e)) in
+    let none : (p : ℕ) → c.byte_of-k.result ≤ p → attr_of l p ≡ no_attr = λ p m. none-past a.class p (omega (arith, r)) (omega (arith, e)) in
     let zero : width (drop c.byte_of-k.result l) ≡ 0 = later-past a.class c.byte_of-k.result none in (
       search rules,
       search rules,
@@ -38,19 +36,18 @@ loop-k-init c =
     )
 
 pub last-requires : goal.last-requires
-last-requires c = (search rules, omega (arith, c.bits_of-bits.ensures 0))
+last-requires c = (search rules, omega (arith, c.bits_of-bits.ensures))
 
 pub last-requires-in-loop-k : goal.last-requires-in-loop-k
-last-requires-in-loop-k c = (search rules, omega (arith, c.bits_of-bits.ensures 0))
+last-requires-in-loop-k c = (search rules, omega (arith, c.bits_of-bits.ensures))
 
 pub overflow_shr-x : goal.overflow_shr-x
-overflow_shr-x c = omega (arith, c.bits_of-bits.ensures 0)
+overflow_shr-x c = omega (arith, c.bits_of-bits.ensures)
 
 pub overflow_shr-y : goal.overflow_shr-y
-overflow_shr-y c = omega (arith, c.bits_of-bits.ensures 0)
+overflow_shr-y c = omega (arith, c.bits_of-bits.ensures)
 
 pub loop-k-preserved : goal.loop-k-preserved
-unfolding attr_at
 loop-k-preserved c =
     let t = c.loop-k in
     let a = c.args in
@@ -58,10 +55,10 @@ loop-k-preserved c =
     let l = attrs_of a.class in
     let e : t.k ≡ k + 1 = omega arith in
     let low : k < a.class.count = omega arith in
-    let bits : c.bits_of-bits.result ≡ min (bits_for (attr_at a.class k)) 8 = let f = c.bits_of-bits.ensures (get_or a.class.lists k 0) in cc in
+    let bits : c.bits_of-bits.result ≡ min (bits_for (attr_at a.class k)) 8 = c.bits_of-bits.ensures ∙ ap (λ (d : Attr). min (bits_for d) 8) c.attribute-attribute.ensures in
     let left-x : t.x ≡ a.v / 2 ^ width (drop (k + 1) l) = t.invariant.5 ∙ ap (λ (n : ℕ). a.v / 2 ^ width (drop n l)) e in
     let left-y : t.y ≡ a.w / 2 ^ width (drop (k + 1) l) = t.invariant.6 ∙ ap (λ (n : ℕ). a.w / 2 ^ width (drop n l)) e in
-    let size : c.byte_at-size.result ≡ (attr_of l k).size = c.byte_at-size.ensures ∙ size-at a.class k low in (
+    let size : c.attribute-attribute.result.size ≡ (attr_of l k).size = ap (λ (d : Attr). d.size) c.attribute-attribute.ensures ∙ size-at a.class k low in (
       search rules,
       search rules,
       search rules,
@@ -75,11 +72,5 @@ loop-k-preserved c =
           (c.last-in-loop-k.ensures ∙ part_at a.class a.w k t.y c.bits_of-bits.result low left-y t.invariant.4 bits
           ∙ ap (λ (z : Bool). part_of l k (cond z a.w a.v)) (sym (eq-eqb a.h a.h refl)))
           c.place.ensures,
-      fill-next (sizes-by l) a.g a.h _ t.k k c.byte_at-size.result c.byte_at-size.result _ _ c.requires.1 c.requires.0 t.invariant.8 e (omega arith) (λ n. size) size c.place-in-loop-k.ensures,
+      fill-next (sizes-by l) a.g a.h _ t.k k c.attribute-attribute.result.size c.attribute-attribute.result.size _ _ c.requires.1 c.requires.0 t.invariant.8 e (omega arith) (λ n. size) size c.place-in-loop-k.ensures,
     )
-
-pub returns : goal.returns
-returns c =
-    let a = c.args in
-    let t = c.loop-k in
-    let l = attrs_of a.class in record { filling = fill_end (values-by l a.h a.v a.w) a.g a.h _ t.k _ t.invariant.7 (omega arith); filling_2 = fill_end (sizes-by l) a.g a.h _ t.k _ t.invariant.8 (omega arith) }

@@ -1,5 +1,5 @@
 -- `formulas::table::fill` meets its contract. The loop's invariant: the places from k on are filled in, in both tables, and x and y are what stands
--- left of these attributes in v and w. The measure is k.
+-- left of these attributes in v and w.
 use mathlib.Core.Path.{◌≡◌}
 use mathlib.Core.Bool.{cond}
 use mathlib.Core.List.{List}
@@ -25,6 +25,3 @@ invariant-loop-k here =
     (here.k ≤ min here.class.count 8) × (32 * here.h + 32 ≤ length here.values) × (32 * here.h + 32 ≤ length here.sizes) × (here.x ≤ 255) × (here.y ≤ 255)
     × (here.x ≡ here.v / 2 ^ width (drop here.k l)) × (here.y ≡ here.w / 2 ^ width (drop here.k l))
     × Filling (values-by l here.h here.v here.w) here.g here.h here.k here.initial.values here.values × Filling (sizes-by l) here.g here.h here.k here.initial.sizes here.sizes
-
-abbrev pub decreases-loop-k : goal.decreases-loop-k
-decreases-loop-k l = l.k

@@ -1,36 +1,18 @@
--- `goal::who_values` meets its contract.
-use mathlib.Core.Path.{◌≡◌, ap, ◌∙◌}
-use native.Mathlib.Omega.{arith}
-use lib.ListN.{length}
+-- `goal::who_values` meets its contract where a user is asked about that is there.
+use Rattle.std.proofs.Common.{◌≡◌, ap, ◌∙◌, length, arith, rules}
 use Rattle.lanes.specs.Lanes.{lane_of}
+use Rattle.lanes.proofs.Laws.{lanes-as}
 use Rattle.search.specs.Queue.{nothing}
 use Rattle.search.specs.declared.queue.Found.{Found}
-use Rattle.session_rows.proofs.Laws.{get_or_any}
-use Rattle.goal.proofs.Questions.{who-session, who-user, who-no-user, who-any}
-use Rattle.lanes.proofs.Laws.{lanes-as, lanes-own}
-use borrow.Author.Rules.{rules}
+use Rattle.goal.proofs.Questions.{who-user}
 use Rattle.goal.proofs.about.who_values.Goals as goal
 
-pub returns-then-q-eq-SESSION : goal.returns-then-q-eq-SESSION
-returns-then-q-eq-SESSION c =
+pub returns-in-Some : goal.returns-in-Some
+returns-in-Some c =
     let a = c.args in
-    lanes-as _ _ c.seen_of.result c.seen_of.ensures (λ v h. who-session a.users (lane_of a.helpers) a.own a.q v c.if-q-eq-SESSION.true)
-
-pub returns-then-q-lt16 : goal.returns-then-q-lt16
-returns-then-q-lt16 c =
-    let a = c.args in
-    let n : length a.users ≡ 16 = search rules in
-    lanes-as _ _ c.seen_of-then-q-lt16.result c.seen_of-then-q-lt16.ensures
+    let n : length a.users.now ≡ 16 = search rules in
+    let found = c.in-Some.ensures.lookup.3 in
+    lanes-as _ _ c.seen_of.result c.seen_of.ensures
     (λ v h.
-    ap (λ (q : Found). lane_of q.seen v) (get_or_any a.users a.q.who _ nothing (omega arith))
-    ∙ who-user a.users (lane_of a.helpers) a.own a.q v c.if-q-eq-SESSION.false c.if-q-eq-USER.true c.if-q-lt16.true)
-
-pub returns-then-q-eq-USER : goal.returns-then-q-eq-USER
-returns-then-q-eq-USER c =
-    let a = c.args in
-    lanes-as _ _ c.none.result c.none.ensures (λ v h. who-no-user a.users (lane_of a.helpers) a.own a.q v c.if-q-eq-SESSION.false c.if-q-eq-USER.true c.if-q-lt16.false)
-
-pub returns : goal.returns
-returns c =
-    let a = c.args in
-    lanes-as _ _ a.helpers (lanes-own a.helpers (search rules)) (λ v h. who-any a.users (lane_of a.helpers) a.own a.q v c.if-q-eq-SESSION.false c.if-q-eq-USER.false)
+    ap (λ (q : Found). lane_of q.seen v) (found.1 nothing)
+    ∙ who-user a.users.now (lane_of a.helpers) a.own.now a.q v (omega (arith, c.in-1.is)) c.in-1.is (omega (arith, found.0)))

@@ -1,4 +1,4 @@
--- `leaves::values::part_all` meets its contract. The loop's invariant: the first z rows are parted. The measure is the number of rows left.
+-- `leaves::values::part_all` meets its contract. The loop's invariant: the first z rows are parted.
 use mathlib.Core.Path.{◌≡◌, refl, ◌∙◌, subst}
 use Prim.Native.Nat.{ℕ}
 use native.Mathlib.Omega.{arith}
@@ -10,20 +10,18 @@ use borrow.Author.Rules.{rules}
 use Rattle.leaves.proofs.values.part_all.Goals as goal
 
 pub loop-z-init : goal.loop-z-init
-loop-z-init c = (search rules, search rules, search rules, parted-start _ _ _ _ record { each = λ a v h. refl })
+loop-z-init c = (search rules, parted-start _ _ _ _ record { each = λ a v h. refl })
 
 pub loop-z-preserved : goal.loop-z-preserved
 loop-z-preserved c =
     let w = c.part in
     let t = c.loop-z in (
-      search rules,
-      search rules,
-      w.ensures.hot_len_unchanged ∙ t.invariant.2,
-      parted-more _ _ _ t.z _ _ c.loop-z-test.true t.invariant.3 w.ensures.rows,
+      w.ensures.hot_len_unchanged ∙ t.invariant.0,
+      parted-more _ _ _ t.z _ _ c.loop-z-test.true t.invariant.1 w.ensures.rows,
     )
 
 pub returns : goal.returns
 returns c =
     let t = c.loop-z in
     let a = c.args in
-    let e : t.z ≡ a.n = omega arith in record { rows = subst (λ (k : ℕ). Rows (parted a.n k (lane_of a.p) (bit_at a.hot.now)) t.hot) e t.invariant.3; hot_len_unchanged = t.invariant.2 }
+    let e : t.z ≡ a.n = omega arith in record { rows = subst (λ (k : ℕ). Rows (parted a.n k (lane_of a.p) (bit_at a.hot.now)) t.hot) e t.invariant.1; hot_len_unchanged = t.invariant.0 }

@@ -1,7 +1,6 @@
--- `planes::listed::listed_word` meets its contract. The loop's invariant: what the attributes from k on take of the number is in their lists,
--- whatever the numbers of these, and right is their width. The measure is k.
+-- `planes::listed::listed_word` meets its contract. The loop's invariant: what the attributes from k on take of the number is in their lists, and
+-- right is their width.
 use mathlib.Core.Path.{◌≡◌}
-use mathlib.Core.List.{[]}
 use Prim.Native.Nat.{◌*◌, ◌-◌, ◌%◌, ◌^◌, ◌≤◌}
 use lib.ListN.{drop}
 use Rattle.policy.specs.Policy.{width}
@@ -12,8 +11,5 @@ use Rattle.planes.proofs.listed.listed_word.Given as goal
 
 abbrev pub invariant-loop-k : goal.invariant-loop-k
 invariant-loop-k here =
-    let l = attrs_of record { count = here.initial.k; kinds = here.kinds; sizes = here.sizes; lists = [] } in
-    (here.k ≤ here.initial.k) × (here.initial.k ≤ 255) × (here.right ≤ 255 * (here.initial.k - here.k)) × (here.right ≡ width (drop here.k l)) × Told here.planes (λ v. in_lists (drop here.k l) (v % 2 ^ here.right)) here.r
-
-abbrev pub decreases-loop-k : goal.decreases-loop-k
-decreases-loop-k l = l.k
+    let l = attrs_of here.class in
+    (here.right ≤ 255 * (here.initial.k - here.k)) × (here.right ≡ width (drop here.k l)) × Told here.planes (λ v. in_lists (drop here.k l) (v % 2 ^ here.right)) here.r

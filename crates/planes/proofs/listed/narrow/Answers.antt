@@ -1,51 +1,38 @@
--- `planes::listed::narrow` meets its contract. The loop's invariant: nothing stands left of bit k. The measure is k.
+-- `planes::listed::narrow` meets its contract. The loop's invariant: nothing stands left of bit k.
 use mathlib.Core.Path.{◌≡◌, refl, sym, ap, ◌∙◌}
-use Prim.Native.Nat.{ℕ, ◌+◌, ◌-◌, ◌/◌, ◌^◌, ◌<◌}
-use native.Mathlib.Decide.{dec_lt}
+use mathlib.Core.Logic.{◌⊎◌, inl, inr}
+use Prim.Native.Nat.{ℕ, ◌-◌, ◌/◌, ◌^◌, ◌<◌, ◌≤◌}
+use native.Mathlib.Decide.{dec_le}
 use native.Mathlib.Nat.{div-eq_of_lt}
 use native.Mathlib.Omega.{arith}
 use borrow.Author.Tests.{eq-eqb}
 use lib.Dec.{eqb}
 use lib.Pow.{pow_mono}
-use Rattle.planes.specs.Word.{Told}
 use Rattle.planes.proofs.Words.{told-byte, told-all, told-plane}
 use Rattle.planes.proofs.Turns.{narrow-turn}
-use Rattle.lanes.specs.Lanes.{bit_of}
 use borrow.Author.Rules.{rules}
 use Rattle.planes.proofs.listed.narrow.Goals as goal
 
 -- the loop ends at bit n, or at bit 8 where n is above: there is nothing left of either
-go : (c : goal.After-loop-k) (v : ℕ) → v < 256 → Dec (8 < c.args.n) → eqb (v / 2 ^ c.loop-k.k) 0 ≡ eqb (v / 2 ^ c.args.n) 0
-go c v l (yes h) =
-    let n = c.args.n in
-    let k = c.loop-k.k in
-    let e : k ≡ 8 = c.loop-k.invariant.1 (omega arith) in
-    ap (λ (k : ℕ). eqb (v / 2 ^ k) 0) e ∙ eq-eqb (v / 2 ^ 8) 0 (omega arith) ∙ sym (eq-eqb (v / 2 ^ n) 0 (div-eq_of_lt (omega (arith, pow_mono {i = 8} {j = n} (omega arith)))))
-go c v l (no h) =
-    let n = c.args.n in
-    let e : c.loop-k.k ≡ n = omega (arith, c.loop-k.invariant.2 (omega arith)) in
-    ap (λ (k : ℕ). eqb (v / 2 ^ k) 0) e
+left : (n k v : ℕ) → v < 256 → (k ≡ n) ⊎ ((k ≡ 8) × (8 ≤ n)) → eqb (v / 2 ^ k) 0 ≡ eqb (v / 2 ^ n) 0
+left n k v l (inl e) = ap (λ (k : ℕ). eqb (v / 2 ^ k) 0) e
+left n k v l (inr e) =
+    ap (λ (k : ℕ). eqb (v / 2 ^ k) 0) e.0 ∙ eq-eqb (v / 2 ^ 8) 0 (omega arith) ∙ sym (eq-eqb (v / 2 ^ n) 0 (div-eq_of_lt (omega (arith, pow_mono {i = 8} {j = n} e.1))))
 
 pub loop-k-init : goal.loop-k-init
 loop-k-init c =
     let a = c.args in
-    (search rules, λ h. refl, λ h. h, told-byte a.planes.now _ _ _ c.requires (told-all a.planes.now) (λ v l. sym (eq-eqb (v / 2 ^ 8) 0 (omega arith))))
+    (λ h. refl, λ h. h, told-byte a.planes.now _ _ _ (search rules) (told-all a.planes.now) (λ v l. sym (eq-eqb (v / 2 ^ 8) 0 (omega arith))))
 
 pub loop-k-preserved : goal.loop-k-preserved
 loop-k-preserved c =
     let t = c.loop-k in
-    let a = c.args in
-    let k = t.k - 1 in
-    let e : t.k ≡ k + 1 = omega arith in
-    let plane : Told a.planes.now (λ v. bit_of v k) c.at.result = told-plane a.planes.now k c.at.result c.at.ensures in (
-      search rules,
-      λ h. absurd (omega arith),
-      λ h. omega arith,
-      narrow-turn a.planes.now t.k k t.r c.at.result e t.invariant.3 plane,
-    )
+    let p = c.args.planes.now in
+    (λ h. absurd (omega arith), λ h. omega arith, narrow-turn p t.k (t.k - 1) t.r _ (omega arith) (search rules) t.invariant.2 (told-plane p (t.k - 1) _ c.get_or.ensures))
 
 pub returns : goal.returns
 returns c =
     let t = c.loop-k in
     let a = c.args in
-    told-byte a.planes.now _ _ _ c.requires t.invariant.3 (λ v l. go c v l (dec_lt 8 a.n))
+    let d : (t.k ≡ a.n) ⊎ ((t.k ≡ 8) × (8 ≤ a.n)) = elim (dec_le 8 a.n) [ yes h ↦ inr (t.invariant.0 h, h) | no h ↦ inl (omega (arith, t.invariant.1 (omega arith))) ] in
+    told-byte a.planes.now _ _ _ (search rules) t.invariant.2 (λ v l. left a.n t.k v l d)

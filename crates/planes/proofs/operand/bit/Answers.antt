@@ -10,7 +10,7 @@ pub returns-then-k-o : goal.returns-then-k-o
 returns-then-k-o c =
     let a = c.args in
     let t = a.planes.now in
-    told-as t _ _ _ (told-plane t _ _ c.at.ensures) (λ v. sym (number-low a.o v a.k c.if-k-o.true))
+    told-as t _ _ _ (told-plane t _ _ c.get_or.ensures) (λ v. sym (number-low a.o v a.k c.if-k-o.true))
 
 pub returns-then-k-lt8 : goal.returns-then-k-lt8
 unfolding bit_of

@@ -1,22 +1,23 @@
--- `planes::operand::order` meets its contract. The loop's invariant: what stands left of bit k is below, and is the same. The measure is k.
+-- `planes::operand::order` meets its contract. The loop's invariant: what stands left of bit k is below, and is the same.
 use mathlib.Core.Path.{◌≡◌, sym, ap, ap₂, ◌∙◌}
-use Prim.Native.Nat.{ℕ, ◌+◌, ◌-◌, ◌/◌, ◌^◌}
+use Prim.Native.Nat.{ℕ, ◌-◌, ◌/◌, ◌^◌, ◌≤◌}
 use native.Mathlib.Omega.{arith}
+use borrow.Author.Rules.{rules}
 use lib.Dec.{ltb, eqb}
 use Rattle.planes.specs.Word.{number_in}
 use Rattle.planes.proofs.Numbers.{number-high}
 use Rattle.planes.proofs.Words.{told-as, told-whole}
 use Rattle.planes.proofs.Turns.{below-turn, same_turn}
-use borrow.Author.Rules.{rules}
 use Rattle.planes.proofs.operand.order.Goals as goal
 
 pub loop-k-init : goal.loop-k-init
 loop-k-init c =
     let a = c.args in
-    let n = c.larger-n.result in
-    let left : (v : ℕ) → c.high-a.result ≡ number_in a.x v / 2 ^ n = λ v. c.high-a.ensures ∙ sym (number-high a.x v n c.larger-n.ensures.0) in
-    let right : (v : ℕ) → c.high-b.result ≡ number_in a.y v / 2 ^ n = λ v. c.high-b.ensures ∙ sym (number-high a.y v n c.larger-n.ensures.1) in (
-      search rules,
+    let n = c.max-n.result in
+    let x : a.x.bits ≤ n = search rules in
+    let y : a.y.bits ≤ n = search rules in
+    let left : (v : ℕ) → c.high-a.result ≡ number_in a.x v / 2 ^ n = λ v. c.high-a.ensures ∙ sym (number-high a.x v n x) in
+    let right : (v : ℕ) → c.high-b.result ≡ number_in a.y v / 2 ^ n = λ v. c.high-b.ensures ∙ sym (number-high a.y v n y) in (
       told-as a.planes.now _ _ _ (told-whole a.planes.now _ _ c.whole-below.ensures) (λ v. ap₂ ltb (left v) (right v)),
       told-as a.planes.now _ _ _ (told-whole a.planes.now _ _ c.whole-same.ensures) (λ v. ap₂ eqb (left v) (right v)),
     )
@@ -25,16 +26,16 @@ pub loop-k-preserved : goal.loop-k-preserved
 loop-k-preserved c =
     let t = c.loop-k in
     let a = c.args in
-    let k = t.k - 1 in
-    let e : t.k ≡ k + 1 = omega arith in (
-      search rules,
-      below-turn a.planes.now (number_in a.x) (number_in a.y) t.k k t.below t.same c.bit-p.result c.bit-q.result e t.invariant.1 t.invariant.2 c.bit-p.ensures c.bit-q.ensures,
-      same_turn a.planes.now (number_in a.x) (number_in a.y) t.k k t.below t.same c.bit-p.result c.bit-q.result e t.invariant.1 t.invariant.2 c.bit-p.ensures c.bit-q.ensures,
-    )
+    let turn = below-turn a.planes.now (number_in a.x) (number_in a.y) t.k (t.k - 1) t.below t.same _ _ (omega arith) t.invariant.0 t.invariant.1 (search rules) (search rules) c.bit-p.ensures c.bit-q.ensures in
+    (turn, same_turn a.planes.now (number_in a.x) (number_in a.y) t.k (t.k - 1) t.below t.same _ _ (omega arith) t.invariant.0 t.invariant.1 (search rules) (search rules) c.bit-p.ensures c.bit-q.ensures)
 
 pub returns : goal.returns
 returns c =
     let t = c.loop-k in
     let a = c.args in
     let e : t.k ≡ 0 = omega arith in
-    let all : (x : ℕ) → x / 2 ^ t.k ≡ x = λ x. ap (λ (k : ℕ). x / 2 ^ k) e ∙ omega arith in record { told = told-as a.planes.now _ _ _ t.invariant.1 (λ v. ap₂ ltb (all (number_in a.x v)) (all (number_in a.y v))); told_2 = told-as a.planes.now _ _ _ t.invariant.2 (λ v. ap₂ eqb (all (number_in a.x v)) (all (number_in a.y v))) }
+    let all : (x : ℕ) → x / 2 ^ t.k ≡ x = λ x. ap (λ (k : ℕ). x / 2 ^ k) e ∙ omega arith in
+    record {
+      below = told-as a.planes.now _ _ _ t.invariant.0 (λ v. ap₂ ltb (all (number_in a.x v)) (all (number_in a.y v)));
+      same = told-as a.planes.now _ _ _ t.invariant.1 (λ v. ap₂ eqb (all (number_in a.x v)) (all (number_in a.y v)));
+    }

@@ -1,10 +1,9 @@
 -- `planes::set::has` meets its contract: member i is a bit of the set, and a set has no member past its size.
 use mathlib.Core.Path.{sym}
 use native.Mathlib.Omega.{arith}
-use Rattle.bits.proofs.Set.{no_member}
 use Rattle.planes.specs.Word.{number_in}
 use Rattle.planes.proofs.Words.{told-as, told_none}
-use Rattle.planes.proofs.Turns.{has_in}
+use Rattle.planes.proofs.Turns.{has_in, no_member}
 use Rattle.planes.proofs.set.has.Goals as goal
 
 pub returns-then-i-n : goal.returns-then-i-n

@@ -31,7 +31,7 @@ loop-i-preserved c =
     let k = c.constant in
     let o = c.order-o in
     let same : Told a.planes.now (λ v. eqb (number_in a.x v) t.i) o.result.same =
-    told-as a.planes.now _ _ _ o.ensures.told_2 (λ v. ap (eqb (number_in a.x v)) (ap (λ (z : Operand). number_in z v) k.ensures ∙ number-constant t.i 0 v)) in
+    told-as a.planes.now _ _ _ o.ensures.same (λ v. ap (eqb (number_in a.x v)) (ap (λ (z : Operand). number_in z v) k.ensures ∙ number-constant t.i 0 v)) in
     (search rules, member-turn a.planes.now (number_in a.x) (λ v. in_set a.y.size (number_in a.y v)) t.i t.r _ _ t.invariant.1 same c.has-in-loop-i.ensures)
 
 pub returns : goal.returns

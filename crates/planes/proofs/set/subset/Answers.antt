@@ -20,7 +20,7 @@ loop-i-preserved c =
     let a = c.args in (
       search rules,
       t.invariant.1,
-      subset-turn a.planes.now (λ v. in_set a.x.size (number_in a.x v)) (λ v. in_set a.y.size (number_in a.y v)) t.i t.r _ _ t.invariant.2 c.has.ensures c.has-in-loop-i.ensures,
+      subset-turn a.planes.now (λ v. in_set a.x.size (number_in a.x v)) (λ v. in_set a.y.size (number_in a.y v)) t.i t.r _ _ (search rules) t.invariant.2 c.has.ensures c.has-in-loop-i.ensures,
     )
 
 pub returns : goal.returns

@@ -1,48 +1,51 @@
--- `reader::formulas::read_node` meets its contract: the field, judged by what is wrong with the node, is the format's. Assumes nothing.
-use mathlib.Core.Path.{◌≡◌, refl, ap, sym, ◌∙◌}
-use mathlib.Core.Bool.{Bool, true, false}
-use Prim.Native.Nat.{ℕ, ◌<◌}
-use native.Mathlib.Decide.{dec_lt}
+-- `reader::formulas::read_node` meets its contract: the two tests of a node, one after the other, are the format's.
+use mathlib.Core.Path.{◌≡◌, refl, sym, ◌∙◌}
+use mathlib.Core.Bool.{Bool, true, false, cond}
+use Prim.Native.Nat.{ℕ}
 use native.Mathlib.Omega.{arith}
-use lib.Dec.{eqb}
-use Rattle.format.specs.Format.{field}
-use Rattle.format.specs.Steps.{from, res_of, judged}
-use Rattle.format.specs.declared.Cursor.{Cursor}
-use Rattle.format.proofs.Chain.{chain-check, chain-field, res-bits}
-use Rattle.format.proofs.Fault.{judged-holds, judged-fails, judged-before, judged-pos, judged-count}
+use Rattle.std.specs.Prelude.{Result, Ok, Err}
+use Rattle.refusal.specs.declared.Refusal.{Refusal}
+use Rattle.refusal.specs.Number.{number_of}
+use Rattle.format.specs.Format.{field, check}
+use Rattle.format.specs.Reads.{any, Reads}
+use Rattle.format.specs.declared.file_reader.FileReader.{FileReader}
+use Rattle.format.proofs.Chain.{no_view, check-stops, check-holds, check-fails, field-stops, field-holds, field-fails, refused}
 use Rattle.policy.specs.Nodes.{node_ok, lists_agree}
 use Rattle.policy.specs.File.{node_format}
 use Rattle.policy.specs.Rules.{lists_of}
-use Rattle.policy.proofs.NodeLaws.{fault_in}
 use Rattle.reader.proofs.formulas.read_node.Goals as goal
 
--- the two judgements of a node in one
-once : (c : Cursor) (ok agree : Bool) → judged c (eqb (fault_in ok agree) 0) (fault_in ok agree) ≡ judged (judged c ok 8) agree 19
-once c true true = judged-holds c 0 ∙ sym (judged-holds (judged c true 8) 19 ∙ judged-holds c 8)
-once c true false = ap (λ (z : Cursor). judged z false 19) (sym (judged-holds c 8))
-once c false true = sym (judged-holds (judged c false 8) 19)
-once c false false = go (dec_lt 0 c.number)
-  where
-    go : Dec (0 < c.number) → judged c false 8 ≡ judged (judged c false 8) false 19
-    go (yes h) = sym (ap (λ (z : Cursor). judged z false 19) (judged-before c false 8 h) ∙ judged-before c false 19 h ∙ sym (judged-before c false 8 h))
-    go (no h) =
-        let e = judged-fails c 8 (omega arith) in
-        sym (ap (λ (z : Cursor). judged z false 19) e ∙ judged-before record { number = 8; pos = c.pos; taken = c.taken } false 19 (omega arith) ∙ sym e)
+-- what the two tests say of a node
+abbrev judged : Bool → Bool → Result (Unit {0}) Refusal
+judged ok agree = cond ok (cond agree (Ok tt) (Err Refusal.Lists)) (Err Refusal.Node)
+
+module _ (t u : ℕ → Bool) {r r' : FileReader} {x : ℕ} (h : Reads (any 20) 20 (λ y. y) r r' (Ok x)) where
+  holds : (ok agree : Bool) → t x ≡ ok → u x ≡ agree → judged ok agree ≡ Ok tt → Reads (check (field 20 t 8) u 19) 20 (λ y. y) r r' (Ok x)
+  holds true true p q e = check-holds _ u 19 (field-holds 20 t 8 h p) q
+  holds true false p q e = cc
+  holds false agree p q e = cc
+
+  fails : (ok agree : Bool) (e : Refusal) → t x ≡ ok → u x ≡ agree → judged ok agree ≡ Err e → Reads (check (field 20 t 8) u 19) 20 no_view r r' (Err e)
+  unfolding number_of
+  fails true true e p q g = cc
+  fails true false e p q g = let k : Refusal.Lists ≡ e = cc in rw (← k) (check-fails _ u Refusal.Lists (field-holds 20 t 8 h p) q)
+  fails false agree e p q g = let k : Refusal.Node ≡ e = cc in rw (← k) (check-stops _ u 19 (field-fails 20 t Refusal.Node h p))
+
+pub returns-in_err-node : goal.returns-in_err-node
+unfolding node_format
+returns-in_err-node c = record { reads = refused _ c.from_residual.result c.from_residual.ensures.1 (check-stops _ _ _ (field-stops _ _ _ c.in_err-node.ensures.reads)) (omega arith) }
+
+pub returns-in_err-check_node : goal.returns-in_err-check_node
+unfolding node_format
+returns-in_err-check_node c =
+    let a = c.args in
+    let l = lists_of a.classes in
+    let r = c.from_residual-in_err-check_node in
+    record { reads = refused _ r.result r.ensures.1 (fails (node_ok l a.f a.i) (lists_agree l) c.in_ok-node.ensures.reads _ _ _ refl refl (sym c.check_node.ensures ∙ c.in_err-check_node.was)) (omega arith) }
 
 pub returns : goal.returns
 unfolding node_format
 returns c =
-    let g = c.node_fault-n in
-    let t = c.take-t in
     let a = c.args in
-    let s = a.s.now in
-    let x = t.result.value in
     let l = lists_of a.classes in
-    let ok = node_ok l a.f a.i x in
-    let agree = lists_agree l x in
-    let same : c.judged-next.result.pos ≡ t.result.at.pos =
-    ap (λ (z : Cursor). z.pos) c.judged-next.ensures ∙ judged-pos t.result.at (eqb g.result 0) g.result in
-    let two : c.judged-next.result ≡ judged (judged t.result.at ok 8) agree 19 =
-    c.judged-next.ensures ∙ ap (λ (n : ℕ). judged t.result.at (eqb n 0) n) g.ensures ∙ once t.result.at ok agree in
-    let sound : res_of (judged t.result.at ok 8) x ≡ from a.at ((field 20 (node_ok l a.f a.i) 8).read s) =
-    chain-field 20 _ 8 s a.at t.result.at x ok (res-bits s a.at 20 t.result t.ensures.value) refl (omega arith) in record { value_value = ap (λ (z : Cursor). res_of z x) two ∙ chain-check _ _ 19 s a.at (judged t.result.at ok 8) x agree sound refl (omega arith); pos_bound = (omega (arith, same, t.ensures.near.place), t.ensures.near.fits); count_is_place = judged-count _ _ c.judged-next.ensures t.ensures.count_is_place }
+    record { reads = holds (node_ok l a.f a.i) (lists_agree l) c.in_ok-node.ensures.reads _ _ refl refl (sym c.check_node.ensures ∙ c.in_ok-check_node.was) }

@@ -1,49 +1,50 @@
--- `reader::values::read_sessions` meets its contract. The loop's invariant: the arrays hold the sessions that were read so far, each took at most
--- 12 bits, and reading them all goes on at the cursor reached. The measure is how many sessions are left. Assumes nothing.
+-- `reader::values::read_sessions` meets its contract: each session that is read is one more row.
 use mathlib.Core.Path.{◌≡◌, ap}
-use Prim.Native.Nat.{ℕ}
+use mathlib.Core.List.{List, ◌++◌}
+use Prim.Native.Nat.{ℕ, ◌≤◌}
 use native.Mathlib.Omega.{arith}
 use borrow.Author.Rules.{rules}
-use Rattle.policy.specs.Rules.{sessions_of}
+use lib.ListN.{length, length-take, get_or-append}
+use Rattle.bits.proofs.Packed.{tab-ext}
+use Rattle.format.proofs.Chain.{refused}
+use Rattle.policy.specs.Rules.{as_session, no_session, session_at, sessions_of}
+use Rattle.policy.specs.declared.Session.{Session as StartingSession}
 use Rattle.policy.proofs.Laws.{sessions-none, sessions-more}
-use Rattle.reader.specs.Parts.{session_of}
-use Rattle.reader_head.proofs.Reached.{reached-none, reached-more, reached-all}
+use Rattle.reader_head.proofs.Reached.{reached-none, reached-more, reached-stops, reached-all}
 use Rattle.reader.proofs.values.read_sessions.Invariants.{row}
 use Rattle.reader.proofs.values.read_sessions.Goals as goal
 
-pub loop-i-init : goal.loop-i-init
-loop-i-init c =
-    let a = c.args in (
-      search rules,
-      search rules,
-      search rules,
-      search rules,
-      search rules,
-      reached-none (row a.users a.class) a.s.now a.n a.at _ (sessions-none _ _),
-      search rules,
-    )
+-- the sessions that count are in front
+sessions-front : (front back : List StartingSession) (m n : ℕ) → m ≡ n → n ≤ length front →
+    sessions_of record { count = m; sessions = front ++ back } ≡ sessions_of record { count = n; sessions = front }
+unfolding sessions_of session_at
+sessions-front front back m n e h = rw e (tab-ext _ _ 0 n (λ k l. ap as_session (get_or-append front back no_session k (omega arith))))
 
-pub loop-i-preserved : goal.loop-i-preserved
-unfolding session_of
-loop-i-preserved c =
-    let l = c.loop-i in
-    let a = c.args in (
-      search rules,
-      search rules,
-      search rules,
-      search rules,
-      search rules,
-      reached-more (row a.users a.class) a.s.now a.n a.at l.p _ _ _ l.i _ (omega arith) l.invariant.5 c.read_session-t.ensures.result_value
-          (sessions-more l.list l.values l.i _ _ (omega arith) (omega arith)),
-      search rules,
-    )
+pub loop-session-init : goal.loop-session-init
+loop-session-init c =
+    let a = c.args in
+    record { items = simp length-take (omega arith); near = omega arith; reached = reached-none (row a.user_count a.class) a.n a.reader.now _ (sessions-none _) }
 
-pub returns : goal.returns
-returns c =
-    let l = c.loop-i in
+pub returns-in_err-session-clause-reads : goal.returns-in_err-session-clause-reads
+returns-in_err-session-clause-reads c =
+    let l = c.loop-session in
+    let a = c.args in
+    refused _ c.from_residual.result c.from_residual.ensures.1
+    (reached-stops (row a.user_count a.class) a.n a.reader.now l.reader _ _ l.session-index _ _ (omega arith) l.invariant.reached 384 c.in_err-session.ensures.reads (omega arith)) (omega arith)
+
+pub loop-session-preserved : goal.loop-session-preserved
+loop-session-preserved c =
+    let l = c.loop-session in
     let a = c.args in record {
-      sessions_value = reached-all (row a.users a.class) a.s.now a.n a.at l.p _ _ l.i (omega arith) l.invariant.5
-          (ap (λ (k : ℕ). sessions_of record { count = k; users = l.list; values = l.values }) (let z : a.n ≡ l.i = omega arith in z));
-      pos_bound = search rules;
-      count_is_place = l.invariant.6;
+      items = search rules;
+      near = omega arith;
+      reached = reached-more (row a.user_count a.class) a.n a.reader.now l.reader _ _ l.session-index _ _ (omega arith) l.invariant.reached _ _ c.in_ok-session.ensures.reads
+          (sessions-more l.session-items l.session-index _ (omega arith));
     }
+
+pub returns-clause-reads : goal.returns-clause-reads
+returns-clause-reads c =
+    let l = c.loop-session in
+    let a = c.args in
+    reached-all (row a.user_count a.class) a.n a.reader.now l.reader _ l.session-index _ _ (omega arith) l.invariant.reached
+    (sessions-front _ _ a.n l.session-index (omega arith) (omega arith)) (omega arith)

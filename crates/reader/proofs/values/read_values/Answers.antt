@@ -1,39 +1,45 @@
--- `reader::values::read_values` meets its contract. The loop's invariant: the array holds the values that were read so far, each took at most 8 bits,
--- and reading them all goes on at the cursor reached. The measure is how many values are left. Assumes nothing.
-use mathlib.Core.Path.{◌≡◌, ap}
-use Prim.Native.Nat.{ℕ}
+-- `reader::values::read_values` meets its contract: each value that is read is one more row.
+use mathlib.Core.Path.{◌≡◌}
+use mathlib.Core.List.{List, ◌++◌}
+use Prim.Native.Nat.{ℕ, ◌≤◌}
 use native.Mathlib.Omega.{arith}
 use borrow.Author.Rules.{rules}
+use lib.ListN.{length, length-take, get_or-append}
+use Rattle.bits.proofs.Packed.{tab-ext}
+use Rattle.format.proofs.Chain.{refused}
 use Rattle.policy.specs.Rules.{values_of}
 use Rattle.policy.proofs.Laws.{values-none, values-more}
-use Rattle.reader_head.proofs.Reached.{reached-none, reached-more, reached-all}
+use Rattle.reader_head.proofs.Reached.{reached-none, reached-more, reached-stops, reached-all}
 use Rattle.reader.proofs.values.read_values.Invariants.{row}
 use Rattle.reader.proofs.values.read_values.Goals as goal
 
-pub loop-i-init : goal.loop-i-init
-loop-i-init c =
+-- the values that count are in front
+values-front : (front back : List ℕ) (m n : ℕ) → m ≡ n → n ≤ length front → values_of record { count = m; values = front ++ back } ≡ values_of record { count = n; values = front }
+unfolding values_of
+values-front front back m n e h = rw e (tab-ext _ _ 0 n (λ k l. get_or-append front back 0 k (omega arith)))
+
+pub loop-value-init : goal.loop-value-init
+loop-value-init c = let a = c.args in record { items = simp length-take (omega arith); near = omega arith; reached = reached-none (row a.class) a.n a.reader.now _ (values-none _) }
+
+pub returns-in_err-value-clause-reads : goal.returns-in_err-value-clause-reads
+returns-in_err-value-clause-reads c =
+    let l = c.loop-value in
     let a = c.args in
-    (search rules, search rules, search rules, search rules, reached-none (row a.class) a.s.now a.n a.at _ (values-none _), search rules)
+    refused _ c.from_residual.result c.from_residual.ensures.1
+    (reached-stops (row a.class) a.n a.reader.now l.reader _ _ l.value-index _ _ (omega arith) l.invariant.reached 256 c.in_err-value.ensures.reads (omega arith)) (omega arith)
 
-pub loop-i-preserved : goal.loop-i-preserved
-loop-i-preserved c =
-    let l = c.loop-i in
-    let a = c.args in (
-      search rules,
-      search rules,
-      search rules,
-      search rules,
-      reached-more (row a.class) a.s.now a.n a.at l.p _ _ _ l.i _ (omega arith) l.invariant.4 c.read_value-t.ensures.value_value
-          (values-more l.list l.i _ (omega arith)),
-      search rules,
-    )
-
-pub returns : goal.returns
-returns c =
-    let l = c.loop-i in
+pub loop-value-preserved : goal.loop-value-preserved
+loop-value-preserved c =
+    let l = c.loop-value in
     let a = c.args in record {
-      values_value = reached-all (row a.class) a.s.now a.n a.at l.p _ _ l.i (omega arith) l.invariant.4
-          (ap (λ (k : ℕ). values_of record { count = k; values = l.list }) (let z : a.n ≡ l.i = omega arith in z));
-      pos_bound = search rules;
-      count_is_place = l.invariant.5;
+      items = search rules;
+      near = omega arith;
+      reached = reached-more (row a.class) a.n a.reader.now l.reader _ _ l.value-index _ _ (omega arith) l.invariant.reached _ _ c.in_ok-value.ensures.reads
+          (values-more l.value-items l.value-index _ (omega arith));
     }
+
+pub returns-clause-reads : goal.returns-clause-reads
+returns-clause-reads c =
+    let l = c.loop-value in
+    let a = c.args in
+    reached-all (row a.class) a.n a.reader.now l.reader _ l.value-index _ _ (omega arith) l.invariant.reached (values-front _ _ a.n l.value-index (omega arith) (omega arith)) (omega arith)

@@ -1,64 +1,54 @@
--- `reader_head::lists::read_attrs` meets its contract. The loop's invariant: the arrays hold the attributes that were read so far, the sizes of the lists
--- are those after them, each took at most 12 bits, and reading them all goes on at the cursor reached. The measure is how many attributes are
--- left. Assumes nothing.
+-- `reader_head::lists::read_attrs` meets its contract: each attribute that is read is one more row, and the last is followed by none.
 use mathlib.Core.Path.{◌≡◌, refl, sym, ap, ◌∙◌}
 use mathlib.Core.List.{List}
 use Prim.Native.Nat.{ℕ}
 use native.Mathlib.Omega.{arith}
 use borrow.Author.Rules.{rules}
 use lib.ListN.{set}
-use Rattle.format.specs.Steps.{from, res_of}
-use Rattle.policy.specs.File.{sizes_after, attr_format}
-use Rattle.policy.specs.Rules.{attrs_of}
+use Rattle.format.proofs.Chain.{refused}
+use Rattle.policy.specs.File.{sizes_after}
+use Rattle.policy.specs.Rules.{as_attr, attrs_of}
 use Rattle.policy.specs.declared.Class.{Class}
 use Rattle.policy.proofs.Laws.{cut, attrs-none, attrs-more, sizes-none, sizes-more}
-use Rattle.reader_head.specs.Parts.{attr_of}
-use Rattle.reader_head.proofs.Reached.{reached-none, reached-more, reached-all}
+use Rattle.reader_head.proofs.Reached.{reached-none, reached-more, reached-stops, reached-all}
 use Rattle.reader_head.proofs.lists.read_attrs.Invariants.{row}
 use Rattle.reader_head.proofs.lists.read_attrs.Goals as goal
 
 pub loop-i-init : goal.loop-i-init
 loop-i-init c =
-    let a = c.args in (
-      search rules,
-      search rules,
-      search rules,
-      search rules,
-      search rules,
-      refl,
-      search rules,
-      sym (ap (sizes_after a.known.now) (attrs-none _ refl) ∙ sizes-none a.known.now),
-      reached-none (row a.known.now) a.s.now a.n a.at _ (attrs-none _ refl),
-      search rules,
-    )
+    let a = c.args in
+    let none = attrs-none _ refl in record {
+      size = refl;
+      near = omega arith;
+      known = sym (ap (sizes_after a.known.now) none ∙ sizes-none a.known.now);
+      reached = reached-none (row a.known.now) a.n a.reader.now _ none;
+    }
 
 pub loop-i-preserved : goal.loop-i-preserved
-unfolding attr_of
 loop-i-preserved c =
-    let z = c.set_size in
     let l = c.loop-i in
     let a = c.args in
-    let r = c.read_attr-a.result in
-    let k : Class = record { count = l.i; kinds = l.kinds; sizes = l.sizes; lists = l.lists } in
-    let more = attrs-more k l.i r.kind r.size r.list (omega arith) (omega arith) (omega arith) in
-    let read : res_of r.at (attr_of r) ≡ from l.p ((attr_format l.known).read a.s.now) = c.read_attr-a.ensures.result_value in
-    let kept = ap (λ (m : List ℕ). set m r.list r.size) l.invariant.7 ∙ sym (sizes-more a.known.now (attrs_of k) (attr_of r)) in (
-      search rules,
-      search rules,
-      search rules,
-      search rules,
-      search rules,
-      search rules,
-      search rules,
-      z.ensures ∙ kept ∙ ap (sizes_after a.known.now) (sym more),
-      reached-more (row a.known.now) a.s.now a.n a.at l.p _ _ _ l.i (attr_of r) (omega arith) l.invariant.8
-          (read ∙ ap (λ (m : List ℕ). from l.p ((attr_format m).read a.s.now)) l.invariant.7) more,
-      search rules,
-    )
+    let r = c.in_ok-attribute.attribute in
+    let k : Class = record { count = l.i; attributes = l.attributes } in
+    let more = attrs-more k l.i r (omega arith) in
+    let one = rw l.invariant.known at c.in_ok-attribute.ensures.reads in record {
+      size = search rules;
+      near = omega arith;
+      known = c.set_size.ensures ∙ ap (λ (m : List ℕ). set m r.list r.size) l.invariant.known ∙ sym (sizes-more a.known.now (attrs_of k) (as_attr r)) ∙ ap (sizes_after a.known.now) (sym more);
+      reached = reached-more (row a.known.now) a.n a.reader.now l.reader _ _ l.i _ _ (omega arith) l.invariant.reached _ _ one more;
+    }
 
-pub returns : goal.returns
-returns c =
+pub returns-in_err-attribute-clause-reads : goal.returns-in_err-attribute-clause-reads
+returns-in_err-attribute-clause-reads c =
     let l = c.loop-i in
     let a = c.args in
-    let k : Class = record { count = l.i; kinds = l.kinds; sizes = l.sizes; lists = l.lists } in
-    let e : attrs_of (cut k a.n) ≡ attrs_of k = ap (λ (m : ℕ). attrs_of (cut k m)) (let z : a.n ≡ l.i = omega arith in z) in record { class_value = reached-all (row a.known.now) a.s.now a.n a.at l.p _ _ l.i (omega arith) l.invariant.8 e; known_after = l.invariant.7 ∙ ap (sizes_after a.known.now) (sym e); pos_bound = search rules; count_is_place = l.invariant.9 }
+    let one = rw l.invariant.known at c.in_err-attribute.ensures.reads in
+    refused _ c.from_residual.result c.from_residual.ensures.1 (reached-stops (row a.known.now) a.n a.reader.now l.reader _ _ l.i _ _ (omega arith) l.invariant.reached 96 one (omega arith)) (omega arith)
+
+pub returns-clause-reads : goal.returns-clause-reads
+returns-clause-reads c =
+    let l = c.loop-i in
+    let a = c.args in
+    let k : Class = record { count = l.i; attributes = l.attributes } in
+    let all : attrs_of (cut k a.n) ≡ attrs_of k = ap (λ (m : ℕ). attrs_of (cut k m)) (let z : a.n ≡ l.i = omega arith in z) in
+    reached-all (row a.known.now) a.n a.reader.now l.reader _ l.i _ _ (omega arith) l.invariant.reached all (omega arith)

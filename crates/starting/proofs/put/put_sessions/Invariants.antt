@@ -1,17 +1,8 @@
--- `starting::put::put_sessions` meets its contract. The loop's invariant: the cells of the first i sessions stand over the front of the
--- cells that were lent. The measure is what is left of the count.
-use mathlib.Core.Path.{◌≡◌}
-use Prim.Native.Nat.{◌-◌, ◌≤◌}
-use lib.ListN.{length}
-use Rattle.policy.specs.Rules.{sessions_of}
-use Rattle.starting.specs.Start.{over, session_cells}
+-- `starting::put::put_sessions`: the cells that were passed are written.
+use Rattle.std.proofs.Common.{◌≡◌, ℕ, ◌<◌, get_or}
+use Rattle.policy.specs.Rules.{session_at}
+use Rattle.cells.specs.Cell.{open_cell}
 use Rattle.starting.proofs.put.put_sessions.Given as goal
 
-abbrev pub invariant-loop-i : goal.invariant-loop-i
-invariant-loop-i l =
-    (l.i ≤ l.i-end) × (l.i-end ≤ length l.initial.cells) × (length l.cells ≡ length l.initial.cells)
-    × (l.cells ≡ over (session_cells (sessions_of record { count = l.i; users = l.users; values = l.values })) l.initial.cells)
-
-abbrev pub decreases-loop-i : goal.decreases-loop-i
-decreases-loop-i l =
-    l.i-end - l.i
+abbrev pub invariant-loop-k : goal.invariant-loop-k
+invariant-loop-k l = (j : ℕ) → j < l.k → get_or l.front j 0 ≡ open_cell (session_at l.starting j).user (session_at l.starting j).value

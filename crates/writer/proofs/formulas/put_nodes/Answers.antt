@@ -1,26 +1,33 @@
--- `writer::formulas::put_nodes` meets its contract. The loop's invariant: the first i nodes are stored, in no more than 20 bits each, and the
--- bytes are as many as before. The measure is how many nodes are left.
-use mathlib.Core.Path.{◌≡◌, refl}
+-- `writer::formulas::put_nodes` meets its contract. The loop's invariant: the first i nodes are stored, in no more than 20 bits each.
+use mathlib.Core.Path.{◌≡◌, sym, ap}
 use native.Mathlib.Omega.{arith}
-use Rattle.format.proofs.Store.{stores-rows-begin, stores-rows-turn}
-use Rattle.policy.proofs.Laws.{nodes-none, nodes-next, nodes-length}
+use Rattle.bits.proofs.Packed.{length-tab}
+use Rattle.format.proofs.Store.{stores-rows-begin, stores-rows-turn, stores-rows-stop, stores-given}
+use Rattle.policy.specs.File.{node_format}
+use Rattle.policy.specs.Rules.{lists_of, nodes_of}
 use Rattle.writer.proofs.formulas.put_nodes.Goals as goal
 
 pub loop-i-init : goal.loop-i-init
-loop-i-init c = (omega arith, refl, omega arith, rw nodes-none (stores-rows-begin _))
+unfolding nodes_of
+loop-i-init c = (omega arith, stores-rows-begin _ _)
 
 pub loop-i-preserved : goal.loop-i-preserved
+unfolding nodes_of
 loop-i-preserved c =
     let l = c.loop-i in
-    let a = c.args in (
-      omega arith,
-      omega arith,
-      omega arith,
-      rw (nodes-next a.nodes.now a.f l.i, ← c.node_at-x.ensures)
-          (stores-rows-turn _ l.i (nodes-length _ _ _) l.invariant.3 (rw nodes-length c.put_node-p.ensures.stores)),
-    )
+    let a = c.args in
+    (omega (arith, c.in_ok-next.ensures.pos_bound), stores-rows-turn _ _ l.i (ap (node_format (lists_of a.classes) a.f) (sym (length-tab _ 0 l.i))) c.get_or-x.ensures l.invariant.1 c.in_ok-next.ensures.stores)
 
-pub returns : goal.returns
-returns c =
+pub returns-in_err-next-clause-stores : goal.returns-in_err-next-clause-stores
+unfolding nodes_of
+returns-in_err-next-clause-stores c =
     let l = c.loop-i in
-    let e : l.i ≡ c.args.n = omega arith in record { stores = rw e at l.invariant.3; pos_bound = omega arith }
+    let a = c.args in
+    stores-given c.from_residual.ensures.1
+    (stores-rows-stop _ _ l.i _ c.loop-i-test.true (ap (node_format (lists_of a.classes) a.f) (sym (length-tab _ 0 l.i))) c.get_or-x.ensures l.invariant.1 c.in_err-next.ensures.stores)
+
+pub returns-clause-stores : goal.returns-clause-stores
+returns-clause-stores c =
+    let l = c.loop-i in
+    let e : l.i ≡ c.args.n = omega arith in
+    rw e at l.invariant.1

@@ -1,8 +1,7 @@
--- `writer::formulas::put_nodes` meets its contract. The loop's invariant: the first i nodes are stored, in no more than 20 bits each, and the
--- bytes are as many as before. The measure is how many nodes are left.
-use mathlib.Core.Path.{◌≡◌}
-use Prim.Native.Nat.{◌+◌, ◌*◌, ◌-◌, ◌≤◌}
+-- `writer::formulas::put_nodes` meets its contract. The loop's invariant: the first i nodes are stored, in no more than 20 bits each.
+use Prim.Native.Nat.{◌+◌, ◌*◌, ◌≤◌}
 use lib.ListN.{length}
+use Rattle.std.specs.Prelude.{Ok}
 use Rattle.format.specs.Format.{rows}
 use Rattle.format.specs.Steps.{Stores}
 use Rattle.policy.specs.File.{node_format}
@@ -11,8 +10,5 @@ use Rattle.writer.proofs.formulas.put_nodes.Given as goal
 
 abbrev pub invariant-loop-i : goal.invariant-loop-i
 invariant-loop-i here =
-    (here.i ≤ here.i-end) × (length here.out ≡ length here.initial.out) × (here.p.pos ≤ here.initial.p.pos + 20 * here.i)
-    × Stores (rows here.i (λ l. node_format (lists_of here.classes) here.f (length l))) (nodes_of here.nodes here.f here.i) here.initial.out here.out here.initial.p here.p
-
-abbrev pub decreases-loop-i : goal.decreases-loop-i
-decreases-loop-i l = l.i-end - l.i
+    (here.next ≤ here.at + 20 * here.i)
+    × Stores (rows here.i (λ l. node_format (lists_of here.classes) here.f (length l))) (nodes_of here.nodes here.f here.i) here.initial.out here.out here.at (Ok here.next)

@@ -1,13 +1,18 @@
 -- `writer::values::put_session` meets its contract: the user, then the value.
-use native.Mathlib.Omega.{arith}
-use Rattle.format.proofs.Store.{stores-pair, stores-via}
+use Rattle.format.proofs.Store.{stores-pair, stores-first, stores-via, stores-given}
 use Rattle.policy.specs.File.{session_format}
+use Rattle.policy.specs.Rules.{as_session}
+use Rattle.refusal.specs.Number.{number_of}
 use Rattle.writer.proofs.values.put_session.Goals as goal
 
-pub put_value-requires : goal.put_value-requires
-put_value-requires c = (omega arith, c.requires.1)
+pub returns-in_err-at-clause-stores : goal.returns-in_err-at-clause-stores
+unfolding session_format number_of
+returns-in_err-at-clause-stores c =
+    let a = c.args in
+    stores-given c.from_residual.ensures.1 (stores-via _ _ _ (as_session a.session) (stores-first _ _ c.in_err-at.ensures.stores))
 
-pub returns : goal.returns
-unfolding session_format
-returns c =
-    let a = c.args in record { stores = stores-via _ _ _ (record { user = a.user; value = a.value }) (stores-pair _ _ c.put_range-a.ensures.stores c.put_value.ensures.stores); pos_bound = omega arith }
+pub returns-clause-stores : goal.returns-clause-stores
+unfolding session_format number_of
+returns-clause-stores c =
+    let a = c.args in
+    stores-via _ _ _ (as_session a.session) (stores-pair _ _ c.in_ok-at.ensures.stores c.put_value.ensures.stores)

@@ -1,29 +1,27 @@
--- `writer::values::put_sessions` meets its contract. The loop's invariant: the first i sessions are stored, in no more than 65029 bits each,
--- and the bytes are as many as before. The measure is how many sessions are left.
+-- `writer::values::put_sessions` meets its contract. The loop's invariant: the first i sessions are stored, in no more than 65029 bits each.
 use mathlib.Core.Path.{◌≡◌, refl}
 use native.Mathlib.Omega.{arith}
-use Rattle.format.proofs.Store.{stores-rows-begin, stores-rows-turn}
-use Rattle.policy.proofs.Laws.{sessions-none, sessions-next, sessions-length}
+use Rattle.format.proofs.Store.{stores-rows-begin, stores-rows-turn, stores-rows-stop, stores-given}
+use Rattle.policy.specs.Rules.{session_at, sessions_of}
 use Rattle.writer.proofs.values.put_sessions.Goals as goal
 
 pub loop-i-init : goal.loop-i-init
-loop-i-init c = (omega arith, refl, omega arith, rw sessions-none (stores-rows-begin _))
-
-pub put_session-p-requires : goal.put_session-p-requires
-put_session-p-requires c = (omega arith, c.class_width-width.ensures.value)
+loop-i-init c = (omega arith, stores-rows-begin _ (session_at c.args.sessions))
 
 pub loop-i-preserved : goal.loop-i-preserved
 loop-i-preserved c =
-    let l = c.loop-i in (
-      omega arith,
-      omega arith,
-      omega arith,
-      rw (sessions-next c.args.sessions l.i)
-          (stores-rows-turn _ l.i (sessions-length _) l.invariant.3
-          (rw (c.byte_at.ensures, c.byte_at-in-loop-i.ensures) at c.put_session-p.ensures.stores)),
-    )
-
-pub returns : goal.returns
-returns c =
     let l = c.loop-i in
-    let e : l.i ≡ c.args.sessions.count = omega arith in record { stores = rw e at l.invariant.3; pos_bound = omega arith }
+    (omega (arith, c.in_ok-next.ensures.pos_bound), stores-rows-turn _ (session_at c.args.sessions) l.i refl c.session.ensures l.invariant.1 c.in_ok-next.ensures.stores)
+
+pub returns-in_err-next-clause-stores : goal.returns-in_err-next-clause-stores
+unfolding sessions_of
+returns-in_err-next-clause-stores c =
+    let l = c.loop-i in
+    stores-given c.from_residual.ensures.1 (stores-rows-stop _ (session_at c.args.sessions) l.i _ c.loop-i-test.true refl c.session.ensures l.invariant.1 c.in_err-next.ensures.stores)
+
+pub returns-clause-stores : goal.returns-clause-stores
+unfolding sessions_of
+returns-clause-stores c =
+    let l = c.loop-i in
+    let e : l.i ≡ c.args.sessions.count = omega arith in
+    rw e at l.invariant.1

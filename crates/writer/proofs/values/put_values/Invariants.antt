@@ -1,18 +1,15 @@
--- `writer::values::put_values` meets its contract. The loop's invariant: the first i values are stored, in no more than 65025 bits each, and
--- the bytes are as many as before. The measure is how many values are left.
-use mathlib.Core.Path.{◌≡◌}
-use Prim.Native.Nat.{◌+◌, ◌*◌, ◌-◌, ◌≤◌}
-use lib.ListN.{length}
+-- `writer::values::put_values` meets its contract. The loop's invariant: the first i values are stored, in no more than 65025 bits each.
+use Prim.Native.Nat.{ℕ, ◌+◌, ◌*◌, ◌≤◌}
+use lib.ListN.{get_or}
+use Rattle.std.specs.Prelude.{Ok}
+use Rattle.bits.specs.Packed.{tab}
 use Rattle.format.specs.Format.{rows}
 use Rattle.format.specs.Steps.{Stores}
 use Rattle.policy.specs.File.{value_format}
-use Rattle.policy.specs.Rules.{attrs_of, values_of}
+use Rattle.policy.specs.Rules.{attrs_of}
 use Rattle.writer.proofs.values.put_values.Given as goal
 
 abbrev pub invariant-loop-i : goal.invariant-loop-i
 invariant-loop-i l =
-    (l.i ≤ l.i-end) × (length l.out ≡ length l.initial.out) × (l.p.pos ≤ l.initial.p.pos + 65025 * l.i)
-    × Stores (rows l.i (λ _. value_format (attrs_of l.class))) (values_of record { count = l.i; values = l.list }) l.initial.out l.out l.initial.p l.p
-
-abbrev pub decreases-loop-i : goal.decreases-loop-i
-decreases-loop-i l = l.i-end - l.i
+    (l.next ≤ l.at + 65025 * l.i)
+    × Stores (rows l.i (λ _. value_format (attrs_of l.fn.class))) (tab (λ (k : ℕ). get_or l.fn.values.values k 0) 0 l.i) l.initial.out l.out l.at (Ok l.next)

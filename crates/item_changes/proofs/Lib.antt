@@ -1,0 +1,1 @@
+mod Offering  -- session values, the last first: what each may change an item to

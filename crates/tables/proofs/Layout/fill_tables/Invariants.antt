@@ -1,0 +1,14 @@
+-- `tables::Layout::fill_tables` meets its contract. The invariant: the tables of the first k nodes are right.
+use mathlib.Core.Path.{◌≡◌}
+use lib.ListN.{length, get_or}
+use Rattle.policy.specs.Rules.{lists_of}
+use Rattle.tables.specs.Tables.{Tables}
+use Rattle.tables.proofs.Layout.fill_tables.Given as goal
+
+abbrev pub invariant-loop-k : goal.invariant-loop-k
+invariant-loop-k l =
+    let y = l.self in
+    record {
+      as_long : length l.area ≡ length l.initial.area;
+      filled : Tables (lists_of y.classes) y.roles.lane y.roles.row y.roles.outer l.marks.lane l.marks.row l.marks.outer (λ j. get_or l.nodes j 0) y.room l.k l.initial.area l.area;
+    }

@@ -1,0 +1,1 @@
+mod Head  -- storing the head

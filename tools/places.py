@@ -22,7 +22,7 @@ FORMS = {
         ("a number for a kind, as a constant", r"const (?:OPEN|CLOSE|CHANGE_SESSION|MAKE|CHANGE_ITEM|ACCESS|ATOMIC|SET|CONSTANT|NOTHING|SESSION|USER|ANYONE|ITEM|ANYTHING): ", "const"),
         ("a number that says that there is none", r"\b256\b *\}? *else|else \{ 256 \}|return 256;|place: 256|< 256 \{$|256 <= hit", "fn struct")],
     3: [("a loop that counts by hand", r"^ *while ", "fn"),
-        ("a loop over the numbers of places", r"^ *for (\w+) in [^{]*\.\.[^{]*\{(?s:.)*(?:\[[^\]\n]*\b\1\b[^\]\n]*\]|(?:\bat|_at|get_or)\([^;]*\b\1\b)", "fn")],
+        ("a loop over the numbers of places", r"^ *for (\w+) in [^{]*\.\.[^{]*\{(?s:.)*(?:\[[^\]\n]*\b\1\b[^\]\n]*\]|(?:\bat|_at|get_or|\.session|\.attribute|\.value)\([^;]*\b\1\b)", "fn")],
     4: [("a copy, a conversion or a line by hand", r"fn (?:copy_front|order_of|seen_of|part|number_of|digit|word|words|open_cell|item_cell|put_bytes|put_number|refused|no_session|none|no_rules|nothing|empty)\b|fn (?:bits|of)\(", "fn")],
     7: [("a choice of the step to run", r"match (?:kind|op|does|part|what) \{|^ *if op == |^ *if way == ", "fn")],
 }

@@ -1,5 +1,6 @@
 """No proof of the analyser's crates unfolds a definition of the monitor's crates or of those below it that say what rules allow: it uses a law that
-stands beside the definition. A definition counts by the crate that it is imported from, whatever name it is given there."""
+stands beside the definition. In a proof file a definition counts by the crate that it is imported from, whatever name it is given there; in an attribute
+of the sources by the first word of its path."""
 import glob
 import re
 import sys
@@ -35,10 +36,26 @@ def unfolded(path):
                 yield f"{path}:{line}: unfolds {name} ({names[name.split('.')[0]]})"
 
 
-paths = {crate: sorted(glob.glob(f"crates/{crate}/proofs/**/*.antt", recursive=True)) for crate in ANALYSER}
-wrong = [f"crate {crate} has no proof file" for crate in ANALYSER if not paths[crate]]
-wrong += [fault for crate in ANALYSER for path in paths[crate] for fault in unfolded(path)]
+def asked(path):
+    """each definition that the attributes of a source ask to have unfolded, by the words of its path, with its line; no words where it can't be read"""
+    with open(path, encoding="utf-8") as file:
+        text = re.sub(r"//[^\n]*", "", file.read())
+    for found in re.finditer(r"\bunfolding\b(?:\s*\(([^()]*)\))?", text):
+        for name in (found[1] or "").rstrip(" \n,").split(","):
+            yield path, text.count("\n", 0, found.start()) + 1, re.findall(r"\w+", name.replace("Rattle::", ""))
+
+
+def files(crate, folder, kind):
+    return sorted(glob.glob(f"crates/{crate}/{folder}/**/*.{kind}", recursive=True))
+
+
+proofs = [path for crate in ANALYSER for path in files(crate, "proofs", "antt")]
+definitions = [definition for crate in ANALYSER for path in files(crate, "src", "rt") for definition in asked(path)]
+wrong = [f"crate {crate} has no proof file" for crate in ANALYSER if not files(crate, "proofs", "antt")]
+wrong += [f"crate {crate} has no source" for crate in ANALYSER if not files(crate, "src", "rt")]
+wrong += [fault for path in proofs for fault in unfolded(path)]
+wrong += [f"{path}:{line}: unfolds {'::'.join(words) or 'what is no path'}" for path, line, words in definitions if not words or words[0] in MONITOR]
 for line in wrong:
     print(line)
-print(f"{sum(map(len, paths.values()))} proof files, {len(wrong)} wrong")
+print(f"{len(proofs)} proof files, {len(definitions)} definitions in attributes of sources, {len(wrong)} wrong")
 sys.exit(1 if wrong else 0)

@@ -64,9 +64,13 @@ module _ (b : Basis) where
   allows Modify o r v = (model_by b).may_modify r o v
   allows (Access k) o r v = accesses (model_by b) k v r
 
-  -- its formula is prepared
+  -- formula f is prepared for lane holder L, row holder R and outer holder O
+  abbrev pub FormulaPrepared : ℕ → ℕ → ℕ → ℕ → Plan → List ℕ → Type 0
+  FormulaPrepared f L R O = Prepared (lists_of b.classes) (nodes_at f) L R O
+
+  -- the formula of what is asked is prepared for its holders
   abbrev pub PreparedFor : Asked → Plan → List ℕ → Type 0
-  PreparedFor a = Prepared (lists_of b.classes) (nodes_at (formula_of a)) (lane_holder a) (row_holder a) (outer_holder a)
+  PreparedFor a = FormulaPrepared (formula_of a) (lane_holder a) (row_holder a) (outer_holder a)
 
   -- and worked out for a value of the outer holder, which is a byte
   abbrev pub ReadyFor : Asked → Plan → ℕ → List ℕ → Type 0

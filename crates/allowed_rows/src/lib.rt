@@ -5,7 +5,7 @@ ghost use Rattle.std.specs.Prelude.{◌≡◌, ◌&&◌, ℕ, ◌+◌, ◌<◌, 
 ghost use Rattle.lanes.specs.Lanes.{lane_of, Lanes};
 ghost use Rattle.policy.specs.Rules.{lists_of};
 ghost use Rattle.alike.specs.Alike.{OneOfEach};
-ghost use Rattle.allowed_rows.specs.Asked.{formula_of, lane_holder, row_holder, outer_holder, outer_value, nodes_at, allows, PreparedFor, ReadyFor, OpenPrepared};
+ghost use Rattle.allowed_rows.specs.Asked.{formula_of, lane_holder, row_holder, outer_holder, outer_value, nodes_at, allows, FormulaPrepared, PreparedFor, ReadyFor, OpenPrepared};
 ghost use Rattle.allowed_rows.specs.Basis.{BasisOf, model_by};
 ghost use Rattle.allowed_rows.specs.Scratch.{Scratch};
 
@@ -81,6 +81,17 @@ pub fn basis_of(rules: &Rules) -> Basis<'_>
 }
 
 impl Basis<'_> {
+    // Formula f is prepared for a lane holder, a row holder and an outer holder.
+    pub fn prepare_formula(&self, f: usize, roles: Roles, area: &mut [u64]) -> Plan
+        requires formula_bound { f < 4 + self.now.permissions }
+        requires scratch { Scratch self.now area.old }
+        ensures prepared { FormulaPrepared self.now f roles.lane roles.row roles.outer result area.new }
+        ensures area_len_unchanged { length area.new ≡ length area.old }
+    {
+        let n = get_or(&self.lengths, f, 0) as usize;
+        preparing::prepare(self.classes, self.nodes, f, n, roles, area)
+    }
+
     // The formula of what is asked is prepared.
     pub fn prepare(&self, asked: Asked, area: &mut [u64]) -> Plan
         requires formula_bound { formula_of asked < 4 + self.now.permissions }
@@ -88,9 +99,7 @@ impl Basis<'_> {
         ensures prepared_for { PreparedFor self.now asked result area.new }
         ensures area_len_unchanged { length area.new ≡ length area.old }
     {
-        let f = asked.formula();
-        let n = get_or(&self.lengths, f, 0) as usize;
-        preparing::prepare(self.classes, self.nodes, f, n, asked.roles(), area)
+        self.prepare_formula(asked.formula(), asked.roles(), area)
     }
 
     // The value of the outer holder: of user `outer`, of an item with the value `outer`, or of none.

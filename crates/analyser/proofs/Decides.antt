@@ -38,7 +38,7 @@ use Rattle.replay.proofs.Room.{kind-few}
 use Rattle.replay.proofs.Theorems.{question-is-asked, replay-is-the-run}
 use Rattle.search.specs.declared.queue.Found.{Found}
 use Rattle.std.specs.Prelude.{Ok}
-use Rattle.analyser.specs.Told.{no_verdict, safe_verdict, leak_verdict, value_of, Told, told_of, refused}
+use Rattle.analyser.specs.Told.{no_verdict, safe_verdict, leak_verdict, value_of, Told, told_in, told_of, refused}
 use Rattle.analyser.specs.Answer.{session_values, item_values, rows_needed, starts_brought, decided, told}
 use Rattle.user_results.specs.Found.{UsersFound}
 use Rattle.decision.specs.Decide.{item_search, leak_place, LeakLeft, DecidedBy}
@@ -78,7 +78,7 @@ told_by a = told_of (Ok a)
 told_chosen : (b : Bool) (pairs values rows : ℕ)
     → told_by record { verdict = cond b Verdict.Leak Verdict.Safe; pairs = pairs; values = values; rows = rows }
     ≡ record { number = 0; verdict = cond b leak_verdict safe_verdict; pairs = pairs; values = values }
-unfolding told_of value_of
+unfolding told_in value_of
 told_chosen true pairs values rows = refl
 told_chosen false pairs values rows = refl
 

@@ -10,14 +10,14 @@ use Rattle.refusal.specs.Number.{number_of}
 use Rattle.policy.specs.Rules.{policy_of}
 use Rattle.policy.specs.declared.Rules.{Rules}
 use Rattle.rules.specs.Answers.{reading, refusal, rules, answer_of}
-use Rattle.analyser.specs.Told.{refused, told_of}
+use Rattle.analyser.specs.Told.{refused, told_in, told_of}
 use Rattle.analyser.specs.Answer.{told}
 use Rattle.analyser.specs.Means.{Means}
 use Rattle.analyser.proofs.Decides.{refused-means}
 
 pub gives-number : (file question before : List ℕ) (e : Refusal) → told (reading file) question (length before) ≡ refused (number_of e)
     → Means file question before before (told_of (Err e)) 0
-unfolding told_of
+unfolding told_in
 gives-number file question before e t = refused-means file question before (number_of e) t
 
 -- a test of the code is the definition's: it held, or it didn't

@@ -32,12 +32,16 @@ unfoldable pub value_of : Verdict → ℕ
 value_of Verdict.Safe = safe_verdict
 value_of Verdict.Leak = leak_verdict
 
--- [01:How each place should look, "Where an answer is an enum"]: what the program's answer stands for
-unfoldable pub told_of : Result Answer Refusal → Told
-told_of (Ok a) = record { number = 0; verdict = value_of a.verdict; pairs = a.pairs; values = a.values }
-told_of (Err refusal) = refused (number_of refusal)
+-- [01:How each place should look, "Where an answer is an enum"]: what the program's answer stands for, by the number that each refusal has
+unfoldable pub told_in : {E : Type 0} → (E → ℕ) → Result Answer E → Told
+told_in numbered (Ok a) = record { number = 0; verdict = value_of a.verdict; pairs = a.pairs; values = a.values }
+told_in numbered (Err refusal) = refused (numbered refusal)
+
+-- the same by the papers' numbers
+abbrev pub told_of : Result Answer Refusal → Told
+told_of = told_in number_of
 
 -- how many rows the answer has: none, where a number is given
-abbrev pub rows_of : Result Answer Refusal → ℕ
+abbrev pub rows_of : {E : Type 0} → Result Answer E → ℕ
 rows_of (Ok a) = a.rows
 rows_of (Err refusal) = 0

@@ -14,10 +14,10 @@ fn window(s: &[u8], k: usize) -> u64
     if k + 3 < s.len() {
         return u32::from_be_bytes([s[k], s[k + 1], s[k + 2], s[k + 3]]) as u64;
     }
-    let a = get_or(s, k, 0);
-    let b = get_or(s, k + 1, 0);
-    let c = get_or(s, k + 2, 0);
-    let d = get_or(s, k + 3, 0);
+    let a = s.get(k).copied().unwrap_or(0);
+    let b = s.get(k + 1).copied().unwrap_or(0);
+    let c = s.get(k + 2).copied().unwrap_or(0);
+    let d = s.get(k + 3).copied().unwrap_or(0);
     u32::from_be_bytes([a, b, c, d]) as u64
 }
 

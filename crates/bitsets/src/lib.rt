@@ -25,7 +25,10 @@ pub fn store(area: &mut [u64], k: usize, x: [u64; 4])
     ensures rows { Rows (put k (lane_of x) (bit_at area.old)) area.new }
     ensures area_len_unchanged { length area.new ≡ length area.old }
 {
-    area[4 * k..4 * k + 4].copy_from_slice(&x);
+    area[4 * k] = x[0];
+    area[4 * k + 1] = x[1];
+    area[4 * k + 2] = x[2];
+    area[4 * k + 3] = x[3];
 }
 
 // Bit v of row a.

@@ -1,6 +1,7 @@
 // The kinds of a step.
 ghost use Rattle.cells.specs.Kind.{KindOf};
 
+use super::row::Row;
 use refusal::Refusal;
 
 // What a step does. The order is that of the kinds' numbers.
@@ -22,12 +23,12 @@ impl TryFrom<u64> for Kind {
     // The kind with a number.
     fn try_from(number: u64) -> Result<Self, Refusal> {
         match number {
-            1 => Ok(Kind::Open),
-            2 => Ok(Kind::Close),
-            3 => Ok(Kind::ChangeSession),
-            4 => Ok(Kind::Make),
-            5 => Ok(Kind::ChangeItem),
-            6 => Ok(Kind::Access),
+            Row::OPEN => Ok(Kind::Open),
+            Row::CLOSE => Ok(Kind::Close),
+            Row::CHANGE_SESSION => Ok(Kind::ChangeSession),
+            Row::MAKE => Ok(Kind::Make),
+            Row::CHANGE_ITEM => Ok(Kind::ChangeItem),
+            Row::ACCESS => Ok(Kind::Access),
             _ => Err(Refusal::Row),
         }
     }

@@ -1,4 +1,4 @@
--- What deciding comes to. In order: the rows that were written; where the first leak is; the verdict and the counts.
+-- What deciding comes to. In order: the rows that were written; where the first leak is; no leak, and a leak.
 use mathlib.Core.Path.{◌≡◌, refl, sym, ap, ap₂, ◌∙◌, subst}
 use mathlib.Core.List.{List, []}
 use Rattle.std.specs.Prelude.{None, Some}

@@ -41,7 +41,7 @@ fn write_rows(
     let asked = about::asked_user(q);
     let by = user_results::name_users(users, asked);
     let mut pen = aim::first_pen(&rules.sessions, asked);
-    let aimed = about::aim_of(&rules.sessions, &rules.items, q, hit.value);
+    let aimed = about::aim_of(&rules.sessions, &rules.items, q, hit.value as usize);
     write_leak(
         &mut pen,
         rows,

@@ -17,7 +17,7 @@ use Rattle.refusal.specs.declared.Refusal.{Refusal}
 use Rattle.refusal.specs.Number.{number_of}
 use Rattle.format.specs.Format.{Res, ok, bad, Format, tested, and_then, taken, field, check, pair, via, zeros, within}
 use Rattle.format.specs.File.{ended, read_file}
-use Rattle.format.specs.Reads.{any, res_of, Reads}
+use Rattle.format.specs.Reads.{any, res_of, ReadsBy, Reads}
 use Rattle.format.specs.declared.file_reader.FileReader.{FileReader}
 
 -- only 0 is from 0 up to, not including, 1
@@ -83,6 +83,19 @@ pub any-is : (w : ℕ) (s : List ℕ) (q : ℕ) → (any w).read s q ≡ taken s
 unfolding any field
 any-is w s q = untested (taken s q w)
 
+-- a field that is refused by what has a number: its test doesn't hold
+module _ {E : Type 0} (number : E → ℕ) (w : ℕ) (t : ℕ → Bool) {m : ℕ} {v : ℕ → ℕ} {r r' : FileReader} where
+  pub numbered-fails : {x : ℕ} (d : E) → Reads (any w) m v r r' (Ok x) → t (v x) ≡ false → ReadsBy number (field w t (number d)) m v r r' (Err d)
+  unfolding field tested
+  numbered-fails {x} d h e =
+      record {
+        answer =
+            ap (λ (b : Bool). tested b (number d) (v x) r'.bits.at) (sym e)
+            ∙ go_on (v x) r'.bits.at (λ x q. tested (t x) (number d) x q) (h.answer ∙ any-is w r.bits.src.now r.bits.at);
+        source = h.source;
+        near = h.near;
+      }
+
 module _ (w : ℕ) (t : ℕ → Bool) {m : ℕ} {v : ℕ → ℕ} {r r' : FileReader} where
   pub field-stops : {e : Refusal} (n : ℕ) → Reads (any w) m v r r' (Err e) → Reads (field w t n) m no_view r r' (Err e)
   unfolding field
@@ -101,15 +114,16 @@ module _ (w : ℕ) (t : ℕ → Bool) {m : ℕ} {v : ℕ → ℕ} {r r' : FileRe
       }
 
   pub field-fails : {x : ℕ} (e : Refusal) → Reads (any w) m v r r' (Ok x) → t (v x) ≡ false → Reads (field w t (number_of e)) m no_view r r' (Err e)
-  unfolding field tested
-  field-fails {x} e h g =
-      record {
-        answer =
-            ap (λ (b : Bool). tested b (number_of e) (v x) r'.bits.at) (sym g)
-            ∙ go_on (v x) r'.bits.at (λ x q. tested (t x) (number_of e) x q) (h.answer ∙ any-is w r.bits.src.now r.bits.at);
-        source = h.source;
-        near = h.near;
-      }
+  field-fails e h g = let s = numbered-fails number_of w t e h g in record { answer = s.answer; source = s.source; near = s.near }
+
+-- the same where the bits run past the end, and where the test holds
+module _ {E : Type 0} (number : E → ℕ) (w : ℕ) (t : ℕ → Bool) {m : ℕ} {v : ℕ → ℕ} {r r' : FileReader} where
+  pub numbered-stops : {e : Refusal} (n : ℕ) (d : E) → number d ≡ number_of e → Reads (any w) m v r r' (Err e) → ReadsBy number (field w t n) m v r r' (Err d)
+  numbered-stops n d k h =
+      let s = field-stops w t n h in record { answer = ap (λ (i : ℕ). bad i r'.bits.at) k ∙ s.answer; source = s.source; near = s.near }
+
+  pub numbered-holds : {x : ℕ} (n : ℕ) → Reads (any w) m v r r' (Ok x) → t (v x) ≡ true → ReadsBy number (field w t n) m v r r' (Ok x)
+  numbered-holds n h e = let s = field-holds w t n h e in record { answer = s.answer; source = s.source; near = s.near }
 
 module _ {A B : Type 0} (f : Format A) (t : A → Bool) {m : ℕ} {v : B → A} {r r' : FileReader} where
   pub check-stops : {e : Refusal} (n : ℕ) → Reads f m v r r' (Err e) → Reads (check f t n) m no_view r r' (Err e)
@@ -185,34 +199,29 @@ module _ {A B : Type 0} (f : Format A) (w n : ℕ) {m : ℕ} {v : B → A} {r r'
   unfolding zeros
   zeros-goes h k = via-reads _ _ _ (pair-goes f (λ _. field w (eqb 0) n) h (zero-bits w n k))
 
--- a whole file: the format, the filling bits and the end
+-- a whole file: the format, from the start of the bytes, the filling bits and the end
 
-from_start : {A : Type 0} (f : Format A) (r : FileReader) → r.bits.at ≡ 0 → read_file f r.bits.src.now ≡ and_then (f.read r.bits.src.now r.bits.at) (λ a q. ended r.bits.src.now a q)
-unfolding read_file
-from_start f r start = ap (λ (q : ℕ). and_then (f.read r.bits.src.now q) (λ a q. ended r.bits.src.now a q)) (sym start)
+module _ {A : Type 0} (f : Format A) (r : FileReader) where
+  pub file-stops : {n : ℕ} → bad n r.bits.at ≡ f.read r.bits.src.now 0 → bad n r.bits.at ≡ read_file f r.bits.src.now
+  unfolding read_file
+  file-stops {n} h = stop n r.bits.at (λ a q. ended r.bits.src.now a q) h
 
-module _ {A B : Type 0} (f : Format A) {m : ℕ} {v : B → A} {r r' : FileReader} (start : r.bits.at ≡ 0) where
-  pub file-stops : {e : Refusal} → Reads f m v r r' (Err e) → bad (number_of e) r'.bits.at ≡ read_file f r.bits.src.now
-  file-stops {e} h = stop (number_of e) r'.bits.at (λ a q. ended r.bits.src.now a q) h.answer ∙ sym (from_start f r start)
-
-  module _ {b : B} (h : Reads f m v r r' (Ok b)) where
+  module _ {a : A} (h : ok a r.bits.at ≡ f.read r.bits.src.now 0) where
     -- the filling bits follow what was read
-    followed : ended r'.bits.src.now (v b) r'.bits.at ≡ read_file f r.bits.src.now
-    followed =
-        ap (λ (s : _). ended s.now (v b) r'.bits.at) h.source
-        ∙ go_on (v b) r'.bits.at (λ a q. ended r.bits.src.now a q) h.answer
-        ∙ sym (from_start f r start)
+    followed : ended r.bits.src.now a r.bits.at ≡ read_file f r.bits.src.now
+    unfolding read_file
+    followed = go_on a r.bits.at (λ a q. ended r.bits.src.now a q) h
 
-    module _ {r'' : FileReader} {m' : ℕ} {u : ℕ → ℕ} where
-      pub file-unfilled : {e : Refusal} → Reads (field ((8 - r'.bits.at % 8) % 8) (within 0 1) 3) m' u r' r'' (Err e) → bad (number_of e) r''.bits.at ≡ read_file f r.bits.src.now
+    module _ {r' : FileReader} {m : ℕ} {u : ℕ → ℕ} where
+      pub file-unfilled : {e : Refusal} → Reads (field ((8 - r.bits.at % 8) % 8) (within 0 1) 3) m u r r' (Err e) → bad (number_of e) r'.bits.at ≡ read_file f r.bits.src.now
       unfolding ended
       file-unfilled {e} g =
-          stop (number_of e) r''.bits.at (λ x q. tested (eqb q (8 * length r'.bits.src.now)) 3 (v b) q) (zero-bits _ 3 g).answer ∙ followed
+          stop (number_of e) r'.bits.at (λ x q. tested (eqb q (8 * length r.bits.src.now)) 3 a q) (zero-bits _ 3 g).answer ∙ followed
 
-      pub file-ends : {x : ℕ} (t : Bool) → Reads (field ((8 - r'.bits.at % 8) % 8) (within 0 1) 3) m' u r' r'' (Ok x) → t ≡ eqb r''.bits.at (8 * length r''.bits.src.now)
-          → tested t 3 (v b) r''.bits.at ≡ read_file f r.bits.src.now
+      pub file-ends : {x : ℕ} (t : Bool) → Reads (field ((8 - r.bits.at % 8) % 8) (within 0 1) 3) m u r r' (Ok x) → t ≡ eqb r'.bits.at (8 * length r'.bits.src.now)
+          → tested t 3 a r'.bits.at ≡ read_file f r.bits.src.now
       unfolding ended
       file-ends {x} t g e =
-          ap (λ (y : Bool). tested y 3 (v b) r''.bits.at) (e ∙ ap (λ (s : _). eqb r''.bits.at (8 * length s.now)) g.source)
-          ∙ go_on (u x) r''.bits.at (λ x q. tested (eqb q (8 * length r'.bits.src.now)) 3 (v b) q) (zero-bits _ 3 g).answer
+          ap (λ (y : Bool). tested y 3 a r'.bits.at) (e ∙ ap (λ (s : _). eqb r'.bits.at (8 * length s.now)) g.source)
+          ∙ go_on (u x) r'.bits.at (λ x q. tested (eqb q (8 * length r.bits.src.now)) 3 a q) (zero-bits _ 3 g).answer
           ∙ followed

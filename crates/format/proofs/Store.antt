@@ -1,7 +1,7 @@
 -- Laws for functions that judge a value and store its fields, giving the place after them or a refusal. In order: a step that is refused, one step
 -- after another, each way of building a format, rows, a whole file.
 -- Not here: reading (Chain).
-use mathlib.Core.Path.{◌≡◌, refl, sym, ap, subst, ◌∙◌}
+use mathlib.Core.Path.{◌≡◌, refl, sym, ap, ◌∙◌}
 use mathlib.Core.Bool.{Bool, true, false}
 use mathlib.Core.Logic.{◌⊎◌, inl, inr}
 use mathlib.Core.List.{List, [], ◌∷◌, ◌++◌, append_assoc, append-nil}
@@ -10,7 +10,7 @@ use Prim.Native.Nat.{ℕ, zero, suc, ◌+◌, ◌-◌, ◌^◌, ◌≤◌, ◌<�
 use native.Mathlib.Omega.{arith}
 use lib.Dec.{eqb, ltb}
 use lib.ListN.{length, drop}
-use Rattle.std.specs.Prelude.{Result, Ok, Err, IfOk, IsErrAnd}
+use Rattle.std.specs.Prelude.{Result, Ok, Err, IsErrAnd}
 use Rattle.std.proofs.lemmas.Result.{err_from_is_err_and}
 use Rattle.bits.specs.Packed.{tab, widths, packed, put, puts}
 use Rattle.bits.proofs.Packed.{widths-app, length-tab}
@@ -20,7 +20,8 @@ use Rattle.refusal.specs.Number.{number_of}
 use Rattle.refusal.specs.declared.Refusal.{Refusal}
 use Rattle.format.specs.Format.{Format, unless, first, unless_fault, field, check, rows_read, rows_judge, rows_fields, rows_kept, rows, pair, via, zeros}
 use Rattle.format.specs.File.{bytes, refused, bytes_or, write_file}
-use Rattle.format.specs.Steps.{fault_of, Stores}
+use Rattle.format.specs.Steps.{fault_of, StoresBy, Stores}
+use Rattle.format.specs.declared.Stopped.{Stopped}
 use Rattle.format.proofs.Fault.{first-left, first-right, first-assoc}
 use Rattle.format.proofs.Kept.{unless_fault-none, unless_fault-empty, kept-rows}
 use Rattle.format.proofs.Law.{Lawful}
@@ -31,25 +32,25 @@ module _ {A : Type 0} {f : Format A} {a : A} {o o' : List ℕ} {p : ℕ} where
   unfolding fault_of
   no-fault h = sym h.fault
 
-  pub stores-length : {r : Result ℕ Refusal} → Stores f a o o' p r → length o' ≡ length o
+  pub stores-length : {r : Result ℕ (Stopped Refusal)} → Stores f a o o' p r → length o' ≡ length o
   stores-length h = ap length h.stored ∙ length-puts o p (f.kept a)
 
 -- the same fault and the same fields before it
-stores-same : {A B : Type 0} (f : Format A) (h : Format B) {a : A} {d : B} {o o' : List ℕ} {p : ℕ} {r : Result ℕ Refusal} → h.judge d ≡ f.judge a → h.kept d ≡ f.kept a
+stores-same : {A B : Type 0} (f : Format A) (h : Format B) {a : A} {d : B} {o o' : List ℕ} {p : ℕ} {r : Result ℕ (Stopped Refusal)} → h.judge d ≡ f.judge a → h.kept d ≡ f.kept a
     → Stores f a o o' p r
     → Stores h d o o' p r
 stores-same f h {p = p} {r} j k s =
-    record { fault = s.fault ∙ sym j; place = subst (λ (l : List (ℕ × ℕ)). IfOk r (λ next. next ≡ p + widths l)) (sym k) s.place; stored = s.stored ∙ ap (puts _ p) (sym k) }
+    record { fault = s.fault ∙ sym j; place = s.place ∙ ap (λ (l : List (ℕ × ℕ)). p + widths l) (sym k); stored = s.stored ∙ ap (puts _ p) (sym k) }
 
 -- a refusal is handed on
-pub stores-given : {A : Type 0} {f : Format A} {a : A} {o o' : List ℕ} {p : ℕ} {refusal : Refusal} {r : Result ℕ Refusal} → IsErrAnd r (λ e. e ≡ refusal)
-    → Stores f a o o' p (Err refusal)
+pub stores-given : {A : Type 0} {f : Format A} {a : A} {o o' : List ℕ} {p : ℕ} {stopped : Stopped Refusal} {r : Result ℕ (Stopped Refusal)} → IsErrAnd r (λ e. e ≡ stopped)
+    → Stores f a o o' p (Err stopped)
     → Stores f a o o' p r
 stores-given {r = r} h s = let e = err_from_is_err_and r h in rw (e.1, e.2) s
 
 module _ {A B C : Type 0} (f : Format A) (g : Format B) (h : Format C) {a : A} {b : B} {d : C} {o₀ o₁ o₂ : List ℕ} {p q : ℕ} where
   -- one step, then another from where it ended
-  stores-then : {r : Result ℕ Refusal} → Stores f a o₀ o₁ p (Ok q) → Stores g b o₁ o₂ q r → h.judge d ≡ first (f.judge a) (g.judge b)
+  stores-then : {r : Result ℕ (Stopped Refusal)} → Stores f a o₀ o₁ p (Ok q) → Stores g b o₁ o₂ q r → h.judge d ≡ first (f.judge a) (g.judge b)
       → h.kept d ≡ f.kept a ++ unless_fault (f.judge a) (g.kept b)
       → Stores h d o₀ o₂ p r
   stores-then {r} x y j k =
@@ -57,7 +58,7 @@ module _ {A B C : Type 0} (f : Format A) (g : Format B) (h : Format C) {a : A} {
       let e : h.kept d ≡ f.kept a ++ g.kept b = k ∙ ap (λ (l : List (ℕ × ℕ)). f.kept a ++ l) (unless_fault-none _ _ none_yet) in
       record {
         fault = y.fault ∙ sym (first-left _ _ none_yet) ∙ sym j;
-        place = go r y.place (omega (arith, x.place, widths-app (f.kept a) (g.kept b), ap widths e));
+        place = omega (arith, x.place, y.place, widths-app (f.kept a) (g.kept b), ap widths e);
         stored =
             y.stored
             ∙ ap (λ (l : List ℕ). puts l q (g.kept b)) x.stored
@@ -65,10 +66,6 @@ module _ {A B C : Type 0} (f : Format A) (g : Format B) (h : Format C) {a : A} {
             ∙ sym (puts-app o₀ p (f.kept a) (g.kept b))
             ∙ ap (puts o₀ p) (sym e);
       }
-    where
-      go : (r : Result ℕ Refusal) {m n : ℕ} → IfOk r (λ next. next ≡ m) → m ≡ n → IfOk r (λ next. next ≡ n)
-      go (Ok next) e d = e ∙ d
-      go (Err refusal) e d = e
 
 -- nothing is stored of the fields after a fault
 kept-stops : (x : Option ℕ) (n : ℕ) (fs gs : List (ℕ × ℕ)) → x ≡ some n → fs ++ unless_fault x gs ≡ fs
@@ -79,53 +76,55 @@ first-stops : (x y : Option ℕ) (n : ℕ) → x ≡ some n → first x y ≡ x
 unfolding first
 first-stops x y n e = rw e refl
 
-module _ {A C : Type 0} (f : Format A) (h : Format C) {a : A} {d : C} {o o' : List ℕ} {p : ℕ} {refusal : Refusal} where
+module _ {A C : Type 0} (f : Format A) (h : Format C) {a : A} {d : C} {o o' : List ℕ} {p : ℕ} {stopped : Stopped Refusal} where
   -- one step was refused, and no other followed
-  stores-stop : (x : Option ℕ) (fs : List (ℕ × ℕ)) → Stores f a o o' p (Err refusal) → h.judge d ≡ first (f.judge a) x
+  stores-stop : (x : Option ℕ) (fs : List (ℕ × ℕ)) → Stores f a o o' p (Err stopped) → h.judge d ≡ first (f.judge a) x
       → h.kept d ≡ f.kept a ++ unless_fault (f.judge a) fs
-      → Stores h d o o' p (Err refusal)
+      → Stores h d o o' p (Err stopped)
   unfolding fault_of
   stores-stop x fs s j k =
-      let fault : f.judge a ≡ some (number_of refusal) = sym s.fault in
+      let fault : f.judge a ≡ some (number_of stopped.refusal) = sym s.fault in
       stores-same f h (j ∙ first-stops (f.judge a) x _ fault) (k ∙ kept-stops _ _ (f.kept a) fs fault) s
 
 module _ {A B : Type 0} (f : Format A) (g : A → Format B) {a : A} {b : B} {o₀ o₁ : List ℕ} {p : ℕ} where
-  pub stores-pair : {o₂ : List ℕ} {q : ℕ} {r : Result ℕ Refusal} → Stores f a o₀ o₁ p (Ok q) → Stores (g a) b o₁ o₂ q r → Stores (pair f g) (a, b) o₀ o₂ p r
+  pub stores-pair : {o₂ : List ℕ} {q : ℕ} {r : Result ℕ (Stopped Refusal)} → Stores f a o₀ o₁ p (Ok q) → Stores (g a) b o₁ o₂ q r → Stores (pair f g) (a, b) o₀ o₂ p r
   unfolding pair
   stores-pair x y = stores-then f (g a) (pair f g) x y refl refl
 
-  pub stores-first : {refusal : Refusal} → Stores f a o₀ o₁ p (Err refusal) → Stores (pair f g) (a, b) o₀ o₁ p (Err refusal)
+  pub stores-first : {stopped : Stopped Refusal} → Stores f a o₀ o₁ p (Err stopped) → Stores (pair f g) (a, b) o₀ o₁ p (Err stopped)
   unfolding pair
   stores-first x = stores-stop f (pair f g) ((g a).judge b) ((g a).kept b) x refl refl
 
 -- a field that fits and that its test holds of, and one that is refused
-module _ (w x : ℕ) (b : Bool) {o : List ℕ} {p : ℕ} where
-  pub field-stored : {o' : List ℕ} (n : ℕ) → ltb x (2 ^ w) ≡ true → b ≡ true → o' ≡ put o p w x → Stores (field w (λ _. b) n) x o o' p (Ok (p + w))
+module _ {E : Type 0} (number : E → ℕ) (w x : ℕ) (b : Bool) {o : List ℕ} {p : ℕ} where
+  pub field-stored : {o' : List ℕ} (n : ℕ) → ltb x (2 ^ w) ≡ true → b ≡ true → o' ≡ put o p w x → StoresBy number (field w (λ _. b) n) x o o' p (Ok (p + w))
   unfolding field unless first unless_fault widths fault_of
   field-stored n fits holds e = record { fault = rw (fits, holds) refl; place = rw (fits, holds) (omega arith); stored = e ∙ rw (fits, holds) (sym (puts_one o p w x)) }
 
-  pub field-refused : (refusal : Refusal) → (ltb x (2 ^ w) ≡ false) ⊎ ((ltb x (2 ^ w) ≡ true) × (b ≡ false)) → Stores (field w (λ _. b) (number_of refusal)) x o o p (Err refusal)
-  unfolding field unless first unless_fault puts fault_of
-  field-refused refusal (inl e) = record { fault = rw e refl; place = tt; stored = rw e refl }
-  field-refused refusal (inr (d, e)) = record { fault = rw (d, e) refl; place = tt; stored = rw (d, e) refl }
+  pub field-refused : (refusal : E) → (ltb x (2 ^ w) ≡ false) ⊎ ((ltb x (2 ^ w) ≡ true) × (b ≡ false))
+      → StoresBy number (field w (λ _. b) (number refusal)) x o o p (Err record { refusal = refusal; at = p })
+  unfolding field unless first unless_fault puts widths fault_of
+  field-refused refusal (inl e) = record { fault = rw e refl; place = rw e (omega arith); stored = rw e refl }
+  field-refused refusal (inr (d, e)) = record { fault = rw (d, e) refl; place = rw (d, e) (omega arith); stored = rw (d, e) refl }
 
-pub stores-via : {A B : Type 0} (to : B → A) (back : A → B) (f : Format A) (b : B) {o o' : List ℕ} {p : ℕ} {r : Result ℕ Refusal} → Stores f (to b) o o' p r
+pub stores-via : {A B : Type 0} (to : B → A) (back : A → B) (f : Format A) (b : B) {o o' : List ℕ} {p : ℕ} {r : Result ℕ (Stopped Refusal)} → Stores f (to b) o o' p r
     → Stores (via to back f) b o o' p r
 unfolding via
 stores-via to back f b x = stores-same f (via to back f) refl refl x
 
-pub stores-field : (w : ℕ) (t : ℕ → Bool) (n x : ℕ) {b : Bool} {o o' : List ℕ} {p : ℕ} {r : Result ℕ Refusal} → b ≡ t x → Stores (field w (λ _. b) n) x o o' p r
-    → Stores (field w t n) x o o' p r
+pub stores-field : {E : Type 0} {number : E → ℕ} (w : ℕ) (t : ℕ → Bool) (n x : ℕ) {b : Bool} {o o' : List ℕ} {p : ℕ} {r : Result ℕ (Stopped E)} → b ≡ t x
+    → StoresBy number (field w (λ _. b) n) x o o' p r
+    → StoresBy number (field w t n) x o o' p r
 unfolding field
 stores-field w t n x e h = record { fault = rw e at h.fault; place = rw e at h.place; stored = rw e at h.stored }
 
 module _ {A : Type 0} (f : Format A) (w n : ℕ) {a : A} {o₀ o₁ : List ℕ} {p : ℕ} where
-  pub stores-zeros : {o₂ : List ℕ} {q : ℕ} {r : Result ℕ Refusal} → Stores f a o₀ o₁ p (Ok q) → Stores (field w (λ _. true) n) 0 o₁ o₂ q r
+  pub stores-zeros : {o₂ : List ℕ} {q : ℕ} {r : Result ℕ (Stopped Refusal)} → Stores f a o₀ o₁ p (Ok q) → Stores (field w (λ _. true) n) 0 o₁ o₂ q r
       → Stores (zeros f w n) a o₀ o₂ p r
   unfolding zeros
   stores-zeros x y = stores-via _ _ _ a (stores-pair f (λ _. field w (eqb 0) n) x (stores-field w (eqb 0) n 0 refl y))
 
-  pub stores-before_zeros : {refusal : Refusal} → Stores f a o₀ o₁ p (Err refusal) → Stores (zeros f w n) a o₀ o₁ p (Err refusal)
+  pub stores-before_zeros : {stopped : Stopped Refusal} → Stores f a o₀ o₁ p (Err stopped) → Stores (zeros f w n) a o₀ o₁ p (Err stopped)
   unfolding zeros
   stores-before_zeros x = stores-via _ _ _ a (stores-first f (λ _. field w (eqb 0) n) x)
 
@@ -135,11 +134,11 @@ module _ {A : Type 0} (f : Format A) (t : A → Bool) {a : A} {o o' : List ℕ} 
   unfolding check unless
   stores-check n h e = record { fault = h.fault ∙ sym (rw e (first-right _)); place = h.place; stored = h.stored }
 
-  pub check-fails : {q : ℕ} (refusal : Refusal) → Stores f a o o' p (Ok q) → t a ≡ false → Stores (check f t (number_of refusal)) a o o' p (Err refusal)
+  pub check-fails : {q : ℕ} (refusal : Refusal) → Stores f a o o' p (Ok q) → t a ≡ false → Stores (check f t (number_of refusal)) a o o' p (Err record { refusal = refusal; at = q })
   unfolding check unless fault_of
-  check-fails refusal h e = record { fault = sym (rw e (first-left _ _ (no-fault h))); place = tt; stored = h.stored }
+  check-fails refusal h e = record { fault = sym (rw e (first-left _ _ (no-fault h))); place = h.place; stored = h.stored }
 
-  pub before_check : (n : ℕ) {refusal : Refusal} → Stores f a o o' p (Err refusal) → Stores (check f t n) a o o' p (Err refusal)
+  pub before_check : (n : ℕ) {stopped : Stopped Refusal} → Stores f a o o' p (Err stopped) → Stores (check f t n) a o o' p (Err stopped)
   unfolding check fault_of
   before_check n h = record { fault = h.fault ∙ sym (first-stops _ _ _ (sym h.fault)); place = h.place; stored = h.stored }
 
@@ -183,7 +182,7 @@ module _ {A : Type 0} (f : List A → Format A) where
 
   module _ (g : ℕ → A) {o₀ o₁ : List ℕ} {p q : ℕ} where
     -- i rows, then all from row i on
-    stores-rows-join : (i n : ℕ) {o₂ : List ℕ} {r : Result ℕ Refusal}
+    stores-rows-join : (i n : ℕ) {o₂ : List ℕ} {r : Result ℕ (Stopped Refusal)}
         → Stores (rows i f) (tab g 0 i) o₀ o₁ p (Ok q)
         → Stores (rows_after (tab g 0 i) n) (tab g i n) o₁ o₂ q r
         → Stores (rows (i + n) f) (tab g 0 (i + n)) o₀ o₂ p r
@@ -213,13 +212,13 @@ module _ {A : Type 0} (f : List A → Format A) where
         stores-rows-join i 1 x (stores-same (f l) (rows_after l 1) (first-right _) none_left z)
 
     -- row i is refused, and no other follows
-    pub stores-rows-stop : (i n : ℕ) {o₂ : List ℕ} {refusal : Refusal} {h : Format A} {a : A}
+    pub stores-rows-stop : (i n : ℕ) {o₂ : List ℕ} {stopped : Stopped Refusal} {h : Format A} {a : A}
         → i < n
         → h ≡ f (tab g 0 i)
         → a ≡ g i
         → Stores (rows i f) (tab g 0 i) o₀ o₁ p (Ok q)
-        → Stores h a o₁ o₂ q (Err refusal)
-        → Stores (rows n f) (tab g 0 n) o₀ o₂ p (Err refusal)
+        → Stores h a o₁ o₂ q (Err stopped)
+        → Stores (rows n f) (tab g 0 n) o₀ o₂ p (Err stopped)
     unfolding rows_after rows_judge rows_kept tab
     stores-rows-stop i n {h = h} {a = a} b e d x y =
         let k = n - suc i in
@@ -229,7 +228,7 @@ module _ {A : Type 0} (f : List A → Format A) where
         rw s at (stores-rows-join i (suc k) x (stores-stop (f l) (rows_after l (suc k)) (rows_judge f (l ++ g i ∷ []) k (tab g (suc i) k)) (rows_kept f (l ++ g i ∷ []) (tab g (suc i) k)) z refl refl))
 
 module _ {A : Type 0} (f : Format A) {a : A} {o o' : List ℕ} where
-  pub not_written : {p : ℕ} {refusal : Refusal} → Stores f a o o' p (Err refusal) → write_file f a ≡ refused (number_of refusal)
+  pub not_written : {p : ℕ} {stopped : Stopped Refusal} → Stores f a o o' p (Err stopped) → write_file f a ≡ refused (number_of stopped.refusal)
   unfolding write_file bytes_or fault_of
   not_written h = ap (λ (m : Option ℕ). bytes_or m (packed (f.fields a))) (sym h.fault)
 

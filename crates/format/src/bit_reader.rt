@@ -1,5 +1,5 @@
-// A reader over the file's bytes, which keeps its bit position. Its functions are thin, over `found_at` on a slice and a number; whoever has a
-// slice and a number calls `read_at`. A field is at most 24 bits wide, and begins below bit 2^40.
+// A reader over the file's bytes, which keeps its bit position. Its functions are thin, over `found_at` on a slice and a number. `read_at`
+// reads one field by a reader of its own. A field is at most 24 bits wide, and begins below bit 2^40.
 ghost use Rattle.std.specs.Prelude.{◌≡◌, ◌^◌, ◌≤◌, ◌<◌};
 ghost use Rattle.format.specs.Reader.{found_at, past};
 

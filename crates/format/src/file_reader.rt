@@ -2,21 +2,20 @@
 ghost use Rattle.std.specs.Prelude.{◌≡◌, ◌+◌, ◌*◌, ◌^◌, ◌≤◌, ◌<◌, length, IfOk};
 
 use super::bit_reader::BitReader;
-use refusal::Refusal;
+use refusal::{Numbered, Refusal};
 
 // The file's bytes with the place reached in them, and how many bits were taken until then: as many as stand before the place, which is within the bytes.
 #[derive(Drop)]
 pub struct FileReader<'a> {
     pub bits: BitReader<'a>,
     pub taken: usize,
-    ghost count_is_place: { taken ≡ bits.at },
-    ghost inside: { bits.at ≤ 8 * length bits.src.now },
+    pub ghost count_is_place: { taken ≡ bits.at },
+    pub ghost inside: { bits.at ≤ 8 * length bits.src.now },
 }
 
 impl<'a> FileReader<'a> {
     ghost use Rattle.format.specs.Format.{within, field};
-    ghost use Rattle.format.specs.Reads.{any, Reads};
-    ghost use Rattle.refusal.specs.Number.{number_of};
+    ghost use Rattle.format.specs.Reads.{any, Reads, ReadsBy};
 
     // A reader that stands at the start of the bytes.
     pub fn new(src: &'a [u8]) -> FileReader<'a>
@@ -62,13 +61,16 @@ impl<'a> FileReader<'a> {
         }
     }
 
-    // A field of w bits from lo up to, not including, end; any other number is refused.
-    pub fn field(&mut self, w: usize, lo: u64, end: u64, refusal: Refusal) -> Result<u64, Refusal>
+    // A field of w bits from lo up to, not including, end; any other number is refused, by whatever has a number itself.
+    pub fn field<E: Numbered>(&mut self, w: usize, lo: u64, end: u64, refusal: E) -> Result<u64, E>
         requires { (w ≤ 24) × (self.old.bits.at < 2 ^ 40) }
-        ensures reads { Reads (field w (within lo end) (number_of refusal)) w (λ x. x) self.old self.new result }
+        ensures reads { ReadsBy E.numbered (field w (within lo end) (E.numbered refusal)) w (λ x. x) self.old self.new result }
         ensures below { IfOk result (λ x. x < end) }
     {
-        let x = self.take(w)?;
+        let x = match self.take(w) {
+            Ok(x) => x,
+            Err(early) => return Err(E::of(early)),
+        };
         if !(lo..end).contains(&x) {
             return Err(refusal);
         }

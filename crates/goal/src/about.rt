@@ -89,12 +89,12 @@ fn actor_of(starting: &Sessions, q: Question) -> Actor
 
 // What the leak aims at.
 #[tactic(auto, unfolding(crate::specs::Asked::aim_of))]
-pub fn aim_of(starting: &Sessions, items: &Values, q: Question, value: u8) -> Aim
+pub fn aim_of(starting: &Sessions, items: &Values, q: Question, value: usize) -> Aim
     ensures { result ≡ aim_of starting.now items.now q value }
 {
     Aim {
         actor: actor_of(starting, q),
-        value,
+        value: (value % 256) as u8,
         items: items.count as u64,
         permission: q.permission,
     }

@@ -29,7 +29,7 @@ pub fn replay_leak(
 // Answers a question of a file: 0 with the verdict (1 safe, 2 leak), how many pairs of user and session value can be open, how many values the
 // asked item can have, and how many rows the leak has, which then fill the front of `rows`, the rest as it was; or the first of the
 // file's number, 9, 10 and 11, and then all four are 0, the verdict too: none. Unless it is a leak `rows` is as it was.
-#[tactic(auto, unfolding(analyser::specs::Told::told_of, analyser::specs::Told::value_of, analyser::specs::Told::refused))]
+#[tactic(auto, unfolding(analyser::specs::Told::told_in, analyser::specs::Told::value_of, analyser::specs::Told::refused))]
 pub fn answer(
     file: &[u8],
     question: &[u8],

@@ -9,7 +9,7 @@ ghost use Rattle.host_steps.specs.Steps.{host_started, host_stepped, host_steps}
 
 use live::{Next, number_of};
 use refusal::Refusal;
-use replay::rows::{Steps, steps_at};
+use replay::rows::steps_at;
 use rules::read_rules;
 
 // Starts a live state: 0 and the starting cells and next numbers written, or the file's number, or 15; then nothing changes.
@@ -23,15 +23,15 @@ pub fn start(
     ensures value { result ≡ host_number (host_started (reading file.now) (lent_as sessions.old items.old record { session = session.old; item = item.old })).refusal }
     ensures item_after { lent_as sessions.new items.new record { session = session.new; item = item.new } ≡ (host_started (reading file.now) (lent_as sessions.old items.old record { session = session.old; item = item.old })).lent }
 {
-    let next = Next {
-        session: *session,
-        item: *item,
-    };
     let begun = starting::start(file, sessions, items).outcome;
-    let first = begun.unwrap_or(next);
-    *session = first.session;
-    *item = first.item;
-    number_of(begun)
+    match begun {
+        Ok(first) => {
+            *session = first.session;
+            *item = first.item;
+            0
+        }
+        Err(refusal) => u32::from(u8::from(refusal)),
+    }
 }
 
 // Carries out a step with the rules of a file, and returns the next numbers; or why the file or the step is refused, and then nothing changes.
@@ -66,30 +66,17 @@ pub fn step(
         item: *item,
     };
     let came = stepped(file, sessions, items, next, row);
-    let after = came.unwrap_or(next);
-    *session = after.session;
-    *item = after.item;
-    number_of(came)
-}
-
-// Carries out rows with the rules of a file, up to the first that is refused; none, where the file is.
-#[tactic(auto, using(crate::proofs::Laws::rows_same), unfolding(crate::specs::Steps::host_steps, rules::specs::Answers::answer_of))]
-fn steps(file: &[u8], sessions: &mut [u64], items: &mut [u64], next: Next, rows: &[u64]) -> Steps
-    ensures { record { refusal = refusal_of result.outcome; lent = lent_as sessions.new items.new result.next; count = result.count } ≡ host_steps (reading file.now) (lent_as sessions.old items.old next) rows.now }
-{
-    match read_rules(file).answer {
-        Ok(rules) => steps_at(rules, sessions, items, next, rows),
-        Err(refusal) => Steps {
-            outcome: Err(refusal),
-            next,
-            count: 0,
-        },
+    if let Ok(after) = came {
+        *session = after.session;
+        *item = after.item;
     }
+    number_of(came)
 }
 
 // Carries out rows one after another, each as `step` would, with one reading of the file, up to the first that gives a number: 0, or
 // the file's number, with rows or without, or 12 to 16 of that row. `done` is how many were carried out; the cells and the next
 // numbers are as those rows left them.
+#[tactic(auto, using(crate::proofs::Laws::rows_same), unfolding(crate::specs::Steps::host_steps, rules::specs::Answers::answer_of, live::specs::Lent::host_number))]
 pub fn step_all(
     file: &[u8],
     sessions: &mut [u64],
@@ -103,13 +90,21 @@ pub fn step_all(
     ensures item_after { lent_as sessions.new items.new record { session = session.new; item = item.new } ≡ (host_steps (reading file.now) (lent_as sessions.old items.old record { session = session.old; item = item.old }) rows.now).lent }
     ensures done_after { done.new ≡ (host_steps (reading file.now) (lent_as sessions.old items.old record { session = session.old; item = item.old }) rows.now).count }
 {
-    let next = Next {
-        session: *session,
-        item: *item,
-    };
-    let ran = steps(file, sessions, items, next, rows);
-    *session = ran.next.session;
-    *item = ran.next.item;
-    *done = ran.count as u64;
-    number_of(ran.outcome)
+    match read_rules(file).answer {
+        Ok(rules) => {
+            let next = Next {
+                session: *session,
+                item: *item,
+            };
+            let ran = steps_at(rules, sessions, items, next, rows);
+            *session = ran.next.session;
+            *item = ran.next.item;
+            *done = ran.count as u64;
+            number_of(ran.outcome)
+        }
+        Err(refusal) => {
+            *done = 0;
+            u32::from(u8::from(refusal))
+        }
+    }
 }

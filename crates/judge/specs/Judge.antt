@@ -1,5 +1,5 @@
--- What a judged step leaves where it is done: its outcome, the next numbers after it and at most one cell that is written. A cell past the end of its
--- slice is no cell.
+-- What a judged step leaves: where it is carried out the next numbers after it and at most one cell that is written, else its number. A cell past the
+-- end of its slice is no cell.
 -- Assumes nothing.
 use Rattle.std.specs.Prelude.{set, Option as Written, Some, None, Result, Ok, Err}
 use Rattle.refusal.specs.declared.Refusal.{Refusal}

@@ -32,7 +32,7 @@ pub struct Judged {
     pub change: Option<Change>,
 }
 
-// Judges the step of a row: what it would leave, or its first number 12 to 16, and then nothing would change. Any cells, next numbers
+// Judges the step of a row: what it would leave, or the first of its refusals 12 to 16, and then nothing would change. Any cells, next numbers
 // and rules will do: they are taken as they read.
 #[tactic(auto, using(steps::proofs::Laws::step_read, steps::proofs::Laws::kind_unknown), unfolding(steps::specs::Step::by_kind, live::specs::Lent::tested, live::specs::Lent::refused, refusal::specs::Number::number_of))]
 pub fn judge(rules: Rules, state: &LiveState, row: u64) -> Result<Judged, Refusal>

@@ -1,4 +1,4 @@
-pub mod Parts  -- the parts of a leak, as each function writes them
+pub mod Parts  -- the item of a leak: one more step on its way
 pub mod Rows  -- rows that are carried out
 pub mod Ways  -- the rows of a way
 pub mod Helpers  -- sessions that stand open

@@ -1,4 +1,4 @@
-// Comparisons by the values of a field of the lane's number, or lane by lane. No operator is named here but those on sets.
+// Comparisons by the values of a field of the lane's number, or lane by lane. No operator is named here.
 ghost use Rattle.std.specs.Prelude.{◌≡◌, true, false, not, ◌&&◌, ◌||◌, ℕ, ◌+◌, ◌*◌, ◌/◌, ◌%◌, ◌^◌, ◌≤◌, ◌<◌, eqb, length, IfSome};
 ghost use Rattle.lanes.specs.Lanes.{bit_of, lane_of, Lanes};
 ghost use Rattle.planes.specs.Word.{number_in, compared_in};

@@ -1,8 +1,8 @@
--- Laws of the live state and of what a call leaves. In order: numbers and cells that are left; what follows of a session or an item, by what the
--- program reads of it.
+-- Laws of the live state and of what a call leaves. In order: the first test that fails; numbers and cells that are left; what follows of a session
+-- or an item, by what the program reads of it; what a number that is given leaves.
 use mathlib.Core.Path.{◌≡◌, refl}
-use mathlib.Core.Bool.{true}
-use mathlib.Core.List.{List}
+use mathlib.Core.Bool.{Bool, true, false}
+use mathlib.Core.List.{List, ◌∷◌}
 use mathlib.Core.Option.{Option, none, some}
 use Prim.Native.Nat.{ℕ, ◌<◌}
 use native.Mathlib.Omega.{arith}
@@ -13,7 +13,19 @@ use Rattle.std.specs.Prelude.{Option as Read, Some, None}
 use Rattle.cells.specs.Cell.{place_of, session_read, item_read}
 use Rattle.cells.specs.declared.Session.{Session as OpenSession}
 use Rattle.cells.proofs.Laws.{place_of-is}
-use Rattle.live.specs.Lent.{Lent, After, refused, of_session, of_item, numbers, left}
+use Rattle.live.specs.Lent.{Lent, After, refused, tested, of_session, of_item, numbers, left}
+
+-- the first test that fails
+
+-- n is its number
+pub data Fails : List (Bool × ℕ) → ℕ → Type 0 where
+  here : {b : Bool} {n : ℕ} {l : List (Bool × ℕ)} → b ≡ false → Fails ((b, n) ∷ l) n
+  later : {b : Bool} {m n : ℕ} {l : List (Bool × ℕ)} → b ≡ true → Fails l n → Fails ((b, m) ∷ l) n
+
+pub fails : {l : List (Bool × ℕ)} {n : ℕ} → Fails l n → (s : Lent) (a : After) → tested l s a ≡ refused n s
+unfolding tested
+fails (here e) s a = rw e refl
+fails (later e h) s a = rw e (fails h s a)
 
 -- numbers and cells that are left
 
@@ -49,3 +61,9 @@ pub item_read_first : (x : Option ℕ) (s : Lent) (f : ℕ → After) → of_ite
 unfolding of_item item_read
 item_read_first none s f = refl
 item_read_first (some o) s f = refl
+
+-- what a number that is given leaves
+
+pub refused_is : (n : ℕ) (s : Lent) → refused n s ≡ record { refusal = some n; lent = s }
+unfolding refused
+refused_is n s = refl

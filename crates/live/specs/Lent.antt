@@ -16,10 +16,15 @@ pub record Lent : Type 0 where
   pub items : List ℕ
   pub next : Next
 
--- [01:How each place should look, "Where an answer is an enum"]: the number that an outcome gives; none where the call is carried out
+-- [01:How each place should look, "Where an answer is an enum"]: the number of a refusal, by the number that each has; none where the call is carried
+-- out
+abbrev pub refusal_in : {A E : Type 0} → (E → ℕ) → Result A E → Option ℕ
+refusal_in numbered (Ok _) = none
+refusal_in numbered (Err refusal) = some (numbered refusal)
+
+-- the same by the papers' numbers
 abbrev pub refusal_of : {A : Type 0} → Result A Refusal → Option ℕ
-refusal_of (Ok _) = none
-refusal_of (Err refusal) = some (number_of refusal)
+refusal_of = refusal_in number_of
 
 -- the same for hosts, as one number: 0 for none
 unfoldable pub host_number : Option ℕ → ℕ

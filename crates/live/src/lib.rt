@@ -1,10 +1,10 @@
-// The live state's next numbers, and the number of an outcome. The state itself, and what a call leaves, are in specs/Lent.
+// The live state's next numbers, and the number of what a call came to. The state itself, and what a call leaves, are in specs/Lent.
 #![tactic(auto)]
 
 ghost use Rattle.std.specs.Prelude.{◌≡◌};
-ghost use Rattle.live.specs.Lent.{refusal_of, host_number};
+ghost use Rattle.live.specs.Lent.{refusal_in, host_number};
 
-use refusal::Refusal;
+use refusal::Numbered;
 
 // The next session number and the next item number.
 #[derive(Clone, Copy)]
@@ -21,13 +21,13 @@ pub struct LiveState<'a> {
     pub next: Next,
 }
 
-// The paper's number of an outcome, 0 for carried out.
+// The number of a refusal, 0 where there is none.
 #[tactic(auto, unfolding(crate::specs::Lent::host_number))]
-pub fn number_of<T: Copy>(outcome: Result<T, Refusal>) -> u32
-    ensures { result ≡ host_number (refusal_of outcome) }
+pub fn number_of<T: Copy, E: Numbered>(outcome: Result<T, E>) -> u32
+    ensures { result ≡ host_number (refusal_in E.numbered outcome) }
 {
     match outcome {
         Ok(_) => 0,
-        Err(refusal) => u32::from(u8::from(refusal)),
+        Err(refusal) => u32::from(refusal.number()),
     }
 }

@@ -14,7 +14,7 @@ use live::{LiveState, Next};
 use policy::Rules;
 use refusal::Refusal;
 
-// Carries out the step of a row and returns the next numbers, or gives its first number 12 to 16 and changes nothing. At most the target's cell is
+// Carries out the step of a row and returns the next numbers, or is refused by the first of 12 to 16 and changes nothing. At most the target's cell is
 // written. Any cells, next numbers and rules will do: they are taken as they read.
 #[tactic(auto, unfolding(live::specs::Lent::refused, live::specs::Lent::done))]
 pub fn step_at(
@@ -36,7 +36,7 @@ pub fn step_at(
 }
 
 // As `step_at`, with the next numbers lent: they are brought up to date where the step is carried out, and stay as they were where it is
-// refused. A caller that cannot hold the reference uses `step_at`.
+// refused.
 pub fn step(
     rules: Rules,
     sessions: &mut [u64],

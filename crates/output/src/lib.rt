@@ -2,7 +2,7 @@
 #![tactic(auto)]
 
 ghost use Rattle.std.specs.Prelude.{◌≡◌, [], ◌∷◌, ◌++◌, ◌+◌, ◌≤◌, min, length};
-ghost use Rattle.analyser.specs.Told.{told_of, rows_of};
+ghost use Rattle.analyser.specs.Told.{told_in, rows_of};
 ghost use Rattle.output.specs.Lines.{numeral, safe_word, leak_word, refused_word, line, verdict_line, row_line, line_at};
 ghost use Rattle.output.specs.Put.{over, fitting, put_at};
 
@@ -10,7 +10,7 @@ use analyser::{Answer, Verdict};
 use bits::get_or;
 use cells::Row;
 use itoa::Buffer;
-use refusal::Refusal;
+use refusal::Numbered;
 use std::io;
 use std::io::Write;
 
@@ -86,13 +86,13 @@ fn row_line(x: u64, out: &mut [u8]) -> usize
 }
 
 // The line of the verdict, or of the refusal.
-#[tactic(auto, unfolding(analyser::specs::Told::told_of, analyser::specs::Told::value_of, analyser::specs::Told::refused, crate::specs::Lines::verdict_line))]
-fn verdict_line(answered: Result<Answer, Refusal>, out: &mut [u8]) -> usize
-    ensures value { result ≡ min (length (verdict_line (told_of answered) (rows_of answered))) (length out.old) }
-    ensures out_after { out.new ≡ over (verdict_line (told_of answered) (rows_of answered)) out.old }
+#[tactic(auto, unfolding(analyser::specs::Told::told_in, analyser::specs::Told::value_of, analyser::specs::Told::refused, crate::specs::Lines::verdict_line))]
+fn verdict_line<E: Numbered>(answered: Result<Answer, E>, out: &mut [u8]) -> usize
+    ensures value { result ≡ min (length (verdict_line (told_in E.numbered answered) (rows_of answered))) (length out.old) }
+    ensures out_after { out.new ≡ over (verdict_line (told_in E.numbered answered) (rows_of answered)) out.old }
 {
     match answered {
-        Err(refusal) => refused_line(u64::from(u8::from(refusal)), out),
+        Err(refusal) => refused_line(u64::from(refusal.number()), out),
         Ok(answer) => match answer.verdict {
             Verdict::Safe => safe_line(answer.pairs as u64, answer.values as u64, out),
             Verdict::Leak => {
@@ -105,9 +105,14 @@ fn verdict_line(answered: Result<Answer, Refusal>, out: &mut [u8]) -> usize
 
 // Puts line i of an answer at the front of `out`, as many bytes as fit, and returns how many. Line 0 is the verdict's, line i + 1 that of row i. The
 // rest of `out` is as it was.
-pub fn line_of(answered: Result<Answer, Refusal>, rows: &[u64], i: usize, out: &mut [u8]) -> usize
-    ensures value { result ≡ min (length (line_at (told_of answered) (rows_of answered) rows.now i)) (length out.old) }
-    ensures out_after { out.new ≡ over (line_at (told_of answered) (rows_of answered) rows.now i) out.old }
+pub fn line_of<E: Numbered>(
+    answered: Result<Answer, E>,
+    rows: &[u64],
+    i: usize,
+    out: &mut [u8],
+) -> usize
+    ensures value { result ≡ min (length (line_at (told_in E.numbered answered) (rows_of answered) rows.now i)) (length out.old) }
+    ensures out_after { out.new ≡ over (line_at (told_in E.numbered answered) (rows_of answered) rows.now i) out.old }
 {
     if i == 0 {
         return verdict_line(answered, out);
@@ -116,9 +121,9 @@ pub fn line_of(answered: Result<Answer, Refusal>, rows: &[u64], i: usize, out: &
 }
 
 // Prints line i.
-fn print_line<W: Write>(
+fn print_line<W: Write, E: Numbered>(
     writer: &mut W,
-    answered: Result<Answer, Refusal>,
+    answered: Result<Answer, E>,
     rows: &[u64],
     i: usize,
 ) -> io::Result<()> {
@@ -128,9 +133,9 @@ fn print_line<W: Write>(
 }
 
 // Prints the answer, and the leak's rows, which stand at the front of `rows`. The first write that fails ends it.
-pub fn print_answer<W: Write>(
+pub fn print_answer<W: Write, E: Numbered>(
     writer: &mut W,
-    answered: Result<Answer, Refusal>,
+    answered: Result<Answer, E>,
     rows: &[u64],
 ) -> io::Result<()> {
     print_line(writer, answered, rows, 0)?;

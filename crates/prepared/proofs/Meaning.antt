@@ -1,5 +1,5 @@
 -- What the rows of a prepared formula say. In order: the steps across, of the board and of a row, by the laws of a level; a formula that is prepared
--- stays so; it is ready after `begin` and after `row`, and then answers.
+-- stays so; it is ready after `begin` and after `row_at`, and then answers.
 use mathlib.Core.Path.{◌≡◌, refl, sym, ap, ap₂, ◌∙◌, subst}
 use mathlib.Core.Bool.{Bool, true, false, not, true≢false}
 use mathlib.Core.List.{List}
@@ -15,6 +15,7 @@ use Rattle.bitsets.specs.Steps.{ran}
 use Rattle.dependence.proofs.Answers.{answer-last, holds-none}
 use Rattle.dependence.proofs.Depending.{depends-first, depends-second}
 use Rattle.prepared.specs.Prepared.{table_at, begun, rowed, Runs, holders, Prepared, Begun, Ready}
+use Rattle.prepared.specs.StepList.{listed}
 use Rattle.prepared.specs.declared.Plan.{Plan}
 use Rattle.prepared.proofs.Start.{Places, Start, places_of}
 use Rattle.prepared.proofs.Level.{level-right, level-low, level-high, level-skipped}
@@ -133,7 +134,7 @@ module _ (c : Lists) (nodes : List ℕ) (L R O : ℕ) where
       let q = mod-lt o p.outers_in_range.0 in
       let A = across-start P i q (bit_at area) (λ v h. refl) (λ a v h g. refl) in
       let T = P.across in
-      let B = board-start P i q (ran p.across 0 i (length p.across) (bit_at area)) (λ v h. level-low A T 0 v (omega arith))
+      let B = board-start P i q (ran (listed p.across) 0 i (length (listed p.across)) (bit_at area)) (λ v h. level-low A T 0 v (omega arith))
       (λ a v h g. level-high A T a v (omega (arith, few))) in
       let U = P.board in
       ready_of P long
@@ -146,7 +147,7 @@ module _ (c : Lists) (nodes : List ℕ) (L R O : ℕ) where
       })
 
   module _ {p : Plan} {o : ℕ} {area : List ℕ} (G : Ready c nodes L R O p o area) where
-    -- it is after `row`
+    -- it is after `row_at`
     pub row-ready : (r : ℕ) (area' : List ℕ) → length area' ≡ length area → Rows (rowed p r (bit_at area)) area' → Ready c nodes L R O p o area'
     unfolding rowed
     row-ready r area' long W =
@@ -165,13 +166,13 @@ module _ (c : Lists) (nodes : List ℕ) (L R O : ℕ) where
 
     -- and its last node's row says what the formula says
     last-holds : (i v m : ℕ) → i < p.rows → v < 256 → p.nodes ≡ m
-        → ran p.row 0 i (length p.row) (bit_at area) m v ≡ holds c (holders L R O (o % p.outers) i v) nodes
+        → ran (listed p.row) 0 i (length (listed p.row)) (bit_at area) m v ≡ holds c (holders L R O (o % p.outers) i v) nodes
     last-holds i v zero q h e =
         let P = G.prepared in
         level-low (row-start P (o % p.outers) i q G.begun) P.row 0 v (omega arith) ∙ P.none v h ∙ sym (holds-none c nodes _ (P.many ∙ e))
     last-holds i v (suc m) q h e =
         let P = G.prepared in
-        ap (λ (k : ℕ). ran p.row 0 i (length p.row) (bit_at area) k v) (omega arith)
+        ap (λ (k : ℕ). ran (listed p.row) 0 i (length (listed p.row)) (bit_at area) k v) (omega arith)
         ∙ level-right (row-start P (o % p.outers) i q G.begun) P.row m v (omega (arith, e)) h refl
         ∙ sym (answer-last c nodes _ m (P.many ∙ e))
 

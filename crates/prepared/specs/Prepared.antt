@@ -16,6 +16,7 @@ use Rattle.dependence.specs.Answers.{holders_of, answer}
 use Rattle.dependence.specs.Depends.{Depends}
 use Rattle.sides.specs.Leaf.{leaf}
 use Rattle.prepared.specs.Level.{node_step, steps_of}
+use Rattle.prepared.specs.StepList.{listed}
 use Rattle.prepared.specs.declared.Plan.{Plan}
 
 -- where the table of node k begins: each table has place for `room` rows
@@ -28,18 +29,18 @@ room_of c h = cond (ltb h 5) (min (2 ^ width (of_holder c h)) 256) 1
 
 -- the rows for the outer value o: after the steps across, then those of the board
 unfoldable pub begun : Plan → ℕ → (ℕ → ℕ → Bool) → ℕ → ℕ → Bool
-begun p o A = ran p.board 0 (o % p.outers) (length p.board) (ran p.across 0 (o % p.outers) (length p.across) A)
+begun p o A = ran (listed p.board) 0 (o % p.outers) (length (listed p.board)) (ran (listed p.across) 0 (o % p.outers) (length (listed p.across)) A)
 
 -- the rows for the row value r: after the steps of the nodes that depend on it
 unfoldable pub rowed : Plan → ℕ → (ℕ → ℕ → Bool) → ℕ → ℕ → Bool
-rowed p r A = ran p.row 0 (r % p.rows) (length p.row) A
+rowed p r A = ran (listed p.row) 0 (r % p.rows) (length (listed p.row)) A
 
 -- the steps find their rows in an area of n words
 pub record Runs (p : Plan) (n : ℕ) : Type 0 where
   pub last : 4 * p.nodes + 4 ≤ n
-  pub across : (i j : ℕ) → i < p.outers → j < length p.across → Fits n i (get_or p.across j 0)
-  pub board : (i j : ℕ) → i < p.outers → j < length p.board → Fits n i (get_or p.board j 0)
-  pub row : (i j : ℕ) → i < p.rows → j < length p.row → Fits n i (get_or p.row j 0)
+  pub across : (i j : ℕ) → i < p.outers → j < length (listed p.across) → Fits n i (get_or (listed p.across) j 0)
+  pub board : (i j : ℕ) → i < p.outers → j < length (listed p.board) → Fits n i (get_or (listed p.board) j 0)
+  pub row : (i j : ℕ) → i < p.rows → j < length (listed p.row) → Fits n i (get_or (listed p.row) j 0)
 
 -- L, R and O are the numbers of the lane, the row and the outer holder
 module _ (L R O : ℕ) where
@@ -79,9 +80,9 @@ module _ (c : Lists) (nodes : List ℕ) (L R O : ℕ) where
         → i < rows_for c L R O (get_or lanes k false) (get_or rows k false) (get_or outer k false)
         → bit_at area (table_at room k + i) v ≡ leaf c (lane_for L R O (get_or lanes k false) (get_or rows k false)) (row_for L R O (get_or lanes k false) (get_or rows k false)) (get_or nodes k 0) i v
     pub told : (k i : ℕ) → k < p.nodes → i < 256 → get_or lanes k false ≡ false → get_or rows k false ≡ false → bit_at area (129 + k) i ≡ answer c nodes (holders L R O i 0 0) k
-    pub across : p.across ≡ steps_of (λ k. not (get_or lanes k false)) (λ k. node_step 65 129 (get_or rows k false) (get_or outer k false) (get_or nodes k 0) k (table_at room k)) p.nodes
-    pub board : p.board ≡ steps_of (λ k. not (get_or rows k false)) (λ k. node_step 1 129 (get_or lanes k false) (get_or outer k false) (get_or nodes k 0) k (table_at room k)) p.nodes
-    pub row : p.row ≡ steps_of (λ k. get_or rows k false) (λ k. node_step 1 65 (get_or lanes k false) (get_or rows k false) (get_or nodes k 0) k (table_at room k)) p.nodes
+    pub across : listed p.across ≡ steps_of (λ k. not (get_or lanes k false)) (λ k. node_step 65 129 (get_or rows k false) (get_or outer k false) (get_or nodes k 0) k (table_at room k)) p.nodes
+    pub board : listed p.board ≡ steps_of (λ k. not (get_or rows k false)) (λ k. node_step 1 129 (get_or lanes k false) (get_or outer k false) (get_or nodes k 0) k (table_at room k)) p.nodes
+    pub row : listed p.row ≡ steps_of (λ k. get_or rows k false) (λ k. node_step 1 65 (get_or lanes k false) (get_or rows k false) (get_or nodes k 0) k (table_at room k)) p.nodes
 
   -- across and the board are worked out for the outer value o
   pub record Begun (p : Plan) (o : ℕ) (lanes rows : List Bool) (area : List ℕ) : Type 0 where

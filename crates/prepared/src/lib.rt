@@ -30,7 +30,7 @@ impl Roles {
 
 // Of a prepared formula: how many nodes it has, how many values of the row holder and of the outer holder are told apart, and the steps across, of the
 // board and of a row.
-#[derive(Drop)]
+#[derive(Clone, Copy)]
 pub struct Plan {
     pub nodes: usize,
     pub rows: usize,

@@ -1,2 +1,2 @@
 -- in reading order
-pub mod Levels  -- a formula's nodes on the three boards
+pub mod Levels  -- the lists of steps of a formula

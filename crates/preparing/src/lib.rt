@@ -5,6 +5,7 @@ ghost use Rattle.std.specs.Prelude.{◌≡◌, ◌+◌, ◌*◌, ◌≤◌, leng
 ghost use Rattle.policy.specs.Rules.{lists_of, nodes_of};
 ghost use Rattle.dependence.specs.Depends.{Depends};
 ghost use Rattle.prepared.specs.Prepared.{room_of, Prepared};
+ghost use Rattle.tables.specs.Tables.{Marked};
 
 mod steps;
 
@@ -37,17 +38,19 @@ fn depending(nodes: &[u32], f: usize, n: usize, h: u8) -> [bool; 64]
 }
 
 // A formula is prepared by its nodes, where it is known which of them depend on each of the three holders.
-fn prepare_with(layout: &Layout, nodes: &[u32], marks: &Marks, area: &mut [u64]) -> Plan
+fn prepare_with(layout: &Layout, nodes: &[u32], marks: &Marks<'_>, area: &mut [u64]) -> Plan
+    requires apart { (layout.now.lane ≡ layout.now.row → ⊥) × (layout.now.lane ≡ layout.now.outer → ⊥) × (layout.now.row ≡ layout.now.outer → ⊥) }
     requires few { length nodes.now ≤ 64 }
+    requires marked { Marked (length nodes.now) marks.now }
     requires area_long { 4 * (193 + 64 * layout.now.room) ≤ length area.old }
-    requires on_lane { Depends (λ k. get_or nodes.now k 0) layout.now.roles.lane (length nodes.now) marks.now.lane }
-    requires on_row { Depends (λ k. get_or nodes.now k 0) layout.now.roles.row (length nodes.now) marks.now.row }
-    requires on_outer { Depends (λ k. get_or nodes.now k 0) layout.now.roles.outer (length nodes.now) marks.now.outer }
-    ensures prepared { Prepared (lists_of layout.now.classes) nodes.now layout.now.roles.lane layout.now.roles.row layout.now.roles.outer result area.new }
+    requires on_lane { Depends (λ k. get_or nodes.now k 0) layout.now.lane (length nodes.now) marks.now.lane.now }
+    requires on_row { Depends (λ k. get_or nodes.now k 0) layout.now.row (length nodes.now) marks.now.row.now }
+    requires on_outer { Depends (λ k. get_or nodes.now k 0) layout.now.outer (length nodes.now) marks.now.outer.now }
+    ensures prepared { Prepared (lists_of layout.now.classes) nodes.now layout.now.lane layout.now.row layout.now.outer result area.new }
     ensures area_len_unchanged { length area.new ≡ length area.old }
 {
     store(area, 0, lanes::none());
-    layout.fill_tables(area, nodes, marks);
+    layout.fill_tables(area, nodes, 0, nodes.len(), marks);
     Level::Outer.list(layout, nodes, marks).run(area, 0);
     Plan {
         nodes: nodes.len(),
@@ -73,11 +76,14 @@ pub fn prepare(
     ensures prepared { Prepared (lists_of classes) (nodes_of nodes.now f n) roles.lane roles.row roles.outer result area.new }
     ensures area_len_unchanged { length area.new ≡ length area.old }
 {
-    let layout = Layout::new(classes, roles);
+    let layout = Layout::new(classes, roles.lane, roles.row, roles.outer);
+    let lane = depending(nodes, f, n, layout.lane);
+    let row = depending(nodes, f, n, layout.row);
+    let outer = depending(nodes, f, n, layout.outer);
     let marks = Marks {
-        lane: depending(nodes, f, n, layout.roles.lane),
-        row: depending(nodes, f, n, layout.roles.row),
-        outer: depending(nodes, f, n, layout.roles.outer),
+        lane: &lane,
+        row: &row,
+        outer: &outer,
     };
     let places = places_of(nodes, f);
     prepare_with(&layout, &places[..n], &marks, area)

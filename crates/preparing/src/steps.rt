@@ -3,6 +3,8 @@ ghost use Rattle.std.specs.Prelude.{◌≡◌, ◌+◌, ◌≤◌, ◌<◌, leng
 ghost use Rattle.policy.specs.Nodes.{op_of, first_of, second_of};
 ghost use Rattle.bitsets.specs.Steps.{step_of};
 ghost use Rattle.prepared.specs.Level.{ref_of, node_step};
+ghost use Rattle.prepared.specs.StepList.{listed};
+ghost use Rattle.tables.specs.Tables.{Marked};
 ghost use Rattle.preparing.specs.Levels.{chosen, way_of, level_steps};
 
 use prepared::StepList;
@@ -123,9 +125,10 @@ impl Level {
     }
 
     // The list.
-    pub(super) fn list(self, layout: &Layout, nodes: &[u32], marks: &Marks) -> StepList
-        requires { length nodes.now ≤ 64 }
-        ensures { result ≡ level_steps self nodes.now marks.now layout.now.room (length nodes.now) }
+    pub(super) fn list(self, layout: &Layout, nodes: &[u32], marks: &Marks<'_>) -> StepList
+        requires few { length nodes.now ≤ 64 }
+        requires marked { Marked (length nodes.now) marks.now }
+        ensures { listed result ≡ level_steps self nodes.now marks.now layout.now.room (length nodes.now) }
     {
         let mut list = StepList::new();
         for (k, node) in nodes.iter().enumerate() {

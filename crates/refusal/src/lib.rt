@@ -1,7 +1,7 @@
 // Why a call refuses: one case for each of the papers' numbers.
 #![tactic(auto)]
 
-ghost use Rattle.std.specs.Prelude.{◌≡◌};
+ghost use Rattle.std.specs.Prelude.{◌≡◌, ℕ};
 ghost use Rattle.refusal.specs.Number.{number_of};
 
 // A refusal, by what is wrong. The order is that of the papers' numbers, not that in which a call judges.
@@ -53,5 +53,42 @@ impl From<Refusal> for u8 {
     // The paper's number.
     fn from(refusal: Refusal) -> u8 {
         refusal as u8
+    }
+}
+
+// What a call may refuse by: each of the papers' refusals, or a number of its own.
+pub trait Numbered: Copy {
+    ghost numbered: { Self → ℕ };
+
+    // A refusal of the papers.
+    fn of(refusal: Refusal) -> Self
+        ensures { numbered result ≡ number_of refusal };
+
+    // Its number.
+    fn number(self) -> u8
+        ensures { result ≡ numbered self };
+}
+
+impl Numbered for Refusal {
+    ghost numbered = { number_of };
+
+    fn of(refusal: Refusal) -> Refusal {
+        refusal
+    }
+
+    fn number(self) -> u8 {
+        u8::from(self)
+    }
+}
+
+impl Numbered for u8 {
+    ghost numbered = { λ n. n };
+
+    fn of(refusal: Refusal) -> u8 {
+        u8::from(refusal)
+    }
+
+    fn number(self) -> u8 {
+        self
     }
 }

@@ -1,10 +1,10 @@
--- Laws of replay. In order: a question's tests; whether a session and a row fit; rows from one on, and the end; what a replay answers where all
--- rows are carried out.
-use mathlib.Core.Path.{◌≡◌, refl, sym, ap, ◌∙◌}
+-- Laws of replay. In order: a question's tests; whether a session and a row fit; rows from one on, and the end; a number is given exactly where
+-- fewer rows than all were carried out; what a replay answers where all rows are carried out.
+use mathlib.Core.Path.{◌≡◌, refl, sym, ap, subst, ◌∙◌}
 use mathlib.Core.Bool.{Bool, true, false}
 use mathlib.Core.List.{List, [], ◌∷◌}
-use mathlib.Core.Option.{Option, none}
-use Prim.Native.Nat.{ℕ, ◌+◌, ◌-◌, ◌<◌}
+use mathlib.Core.Option.{Option, none, some}
+use Prim.Native.Nat.{ℕ, ◌+◌, ◌-◌, ◌≤◌, ◌<◌}
 use native.Mathlib.Numerals.{add-one}
 use native.Mathlib.Omega.{arith}
 use borrow.Author.Tests.{eq-eqb, ne_eqb}
@@ -127,6 +127,50 @@ unfolding rows_in ran_all
 rows_all m s rows i e =
     let d : drop i rows ≡ [] = past (drop i rows) (omega (arith, length-drop i rows)) in
     rw d (ap (λ (n : ℕ). record { refusal = none; lent = s; count = n }) e)
+
+-- how many rows were carried out
+
+-- of rows that end at n: a number is given, and fewer were carried out; or none is, and all were
+data Counted (r : Ran) (n : ℕ) : Type 0 where
+  fewer : (k : ℕ) → r.refusal ≡ some k → r.count < n → Counted r n
+  every : r.refusal ≡ none → r.count ≡ n → Counted r n
+
+counted-further : (o : Option ℕ) (s : Lent) (done : ℕ) (f : ℕ → Ran) (n : ℕ) → done < n → Counted (f (done + 1)) n → Counted (further o s done f) n
+unfolding further
+counted-further none s done f n h c = c
+counted-further (some k) s done f n h c = fewer k refl h
+
+-- by induction on the rows
+counted : (m : Model) (s : Lent) (done : ℕ) (rows : List ℕ) (n : ℕ) → n ≡ done + length rows → Counted (rows_in m s done rows) n
+unfolding rows_in ran_all
+counted m s done [] n e = every refl (omega arith)
+counted m s done (row ∷ rows) n e =
+    let a = step_in m s row in
+    counted-further a.refusal a.lent done (λ k. rows_in m a.lent k rows) n (omega arith) (counted m a.lent (done + 1) rows n (omega arith))
+
+module _ (m : Model) (s t : Lent) (rows : List ℕ) {x : Option ℕ} {k : ℕ} (e : record { refusal = x; lent = t; count = k } ≡ rows_in m s 0 rows) where
+  count-is : Counted record { refusal = x; lent = t; count = k } (length rows)
+  count-is = subst (λ (r : Ran). Counted r (length rows)) (sym e) (counted m s 0 rows (length rows) (omega arith))
+
+  -- fewer rows than all were carried out, so a number is given
+  pub rows-fewer : k < length rows → (n : ℕ) × (x ≡ some n)
+  rows-fewer h = go count-is
+    where
+      go : Counted record { refusal = x; lent = t; count = k } (length rows) → (n : ℕ) × (x ≡ some n)
+      go (fewer n f l) = (n, f)
+      go (every f l) = absurd (omega arith)
+
+  -- all were, so none is
+  pub rows-every : length rows ≤ k → x ≡ none
+  rows-every h = go count-is
+    where
+      go : Counted record { refusal = x; lent = t; count = k } (length rows) → x ≡ none
+      go (fewer n f l) = absurd (omega arith)
+      go (every f l) = f
+
+-- the same, said of the rows
+pub carried_all : (m : Model) (s : Lent) (rows : List ℕ) → length rows ≤ (rows_in m s 0 rows).count → (rows_in m s 0 rows).refusal ≡ none
+carried_all m s rows h = rows-every m s (rows_in m s 0 rows).lent rows refl h
 
 -- what a replay answers
 

@@ -13,7 +13,7 @@ use live::LiveState;
 use policy::Rules;
 
 // Whether session number k is one that is asked about.
-#[tactic(auto, using(crate::proofs::Laws::reads_as_of, steps::proofs::ModelLaws::model_in_lem), unfolding(crate::specs::Replay::who_fits, crate::specs::Question::who_of, steps::specs::Step::session_now))]
+#[tactic(auto, using(crate::proofs::Laws::reads_as_of, steps::proofs::Laws::session_now_is), unfolding(crate::specs::Replay::who_fits, crate::specs::Question::who_of))]
 fn who_fits(rules: Rules, state: &LiveState, q: Question, k: u64) -> bool
     ensures { result ≡ who_fits (model_of (policy_of rules)) (lent_of state.now) (who_of q) k }
 {
@@ -41,7 +41,7 @@ fn which_fits(q: Question, k: u64) -> bool
 }
 
 // Whether a row that was carried out is a grant that fits.
-#[tactic(auto, unfolding(crate::specs::Replay::step_fits, cells::specs::Row::step_of))]
+#[tactic(auto, using(cells::proofs::Rows::step_is), unfolding(crate::specs::Replay::step_fits))]
 fn step_fits(rules: Rules, state: &LiveState, q: Question, row: u64) -> bool
     ensures { result ≡ step_fits (model_of (policy_of rules)) (lent_of state.now) q (step_of (parts_of row)) }
 {

@@ -20,7 +20,7 @@ use starting::start_with;
 // Replays rows from a file's start for a question: carried out, or the first of the file's number, 10, 15 where the starting cells don't fit,
 // the number of the first row that is refused, and 17 unless the last row is a grant that fits the question. The cells hold what ran: up to
 // 10 and 15 they are as they were, and a row that is refused changes none.
-#[tactic(auto, unfolding(crate::specs::Replay::replayed, crate::specs::Replay::played, crate::specs::Replay::judged, rules::specs::Answers::answer_of, live::specs::Lent::refused, starting::specs::Start::nothing_given, refusal::specs::Number::number_of))]
+#[tactic(auto, using(live::proofs::Laws::refused_is), unfolding(crate::specs::Replay::replayed, crate::specs::Replay::played, crate::specs::Replay::judged, rules::specs::Answers::answer_of, refusal::specs::Number::number_of))]
 pub fn replay(
     file: &[u8],
     question: &[u8],

@@ -10,7 +10,7 @@ use monitor::step_at;
 use policy::Rules;
 use refusal::Refusal;
 
-// How rows came out: carried out, or the number of the first that was not; the next numbers; how many were carried out.
+// How rows came out: all carried out, or why the first that was not is refused; the next numbers; how many were carried out.
 #[derive(Clone, Copy)]
 pub struct Steps {
     pub outcome: Result<(), Refusal>,

@@ -1,8 +1,9 @@
-// Rule files: rules are read from bytes, or refused by their first number; and rules are written to bytes, or refused by the number
-// that reading them would give.
+// Rule files: rules are read from bytes, or refused by the first fault in reading order; and rules are written to bytes, or refused as
+// reading them would be.
 #![tactic(auto)]
 
-ghost use Rattle.std.specs.Prelude.{◌≡◌, ◌*◌, eqb, length};
+ghost use Rattle.std.specs.Prelude.{◌≡◌, ◌*◌, ◌≤◌, eqb, length};
+ghost use Rattle.format.specs.Format.{Format};
 ghost use Rattle.format.specs.File.{bytes, read_file};
 ghost use Rattle.format.specs.Reads.{res_of};
 ghost use Rattle.policy.specs.File.{policy_format};
@@ -10,7 +11,7 @@ ghost use Rattle.policy.specs.Rules.{policy_of};
 ghost use Rattle.rules.specs.Answers.{answer_of, reading, bits_taken, writing, written, written_of, filled};
 
 use format::file_reader::FileReader;
-use policy::Rules;
+use policy::{Rules, no_rules};
 use reader::read_policy;
 use refusal::Refusal;
 
@@ -29,18 +30,23 @@ fn at_end(reader: &FileReader) -> bool
     at % 8 == 0 && at / 8 == reader.bits.src.len()
 }
 
-// The rules, then the filling bits, and nothing after them.
-fn read_whole(reader: &mut FileReader) -> Result<Rules, Refusal>
-    requires { reader.old.bits.at ≡ 0 }
+// The rules, which were read up to the reader's place, if the filling bits follow and nothing after them.
+fn read_end(
+    reader: &mut FileReader,
+    read: Result<(), Refusal>,
+    rules: &Rules,
+) -> Result<Rules, Refusal>
+    requires read { res_of (λ _. policy_of rules.now) read reader.old.bits.at ≡ policy_format.read reader.old.bits.src.now 0 }
+    requires near { reader.old.bits.at ≤ 16680 }
     ensures { res_of policy_of result reader.new.bits.at ≡ read_file policy_format reader.old.bits.src.now }
 {
-    let rules = read_policy(reader)?;
+    read?;
     let fill = (8 - reader.position() % 8) % 8;
     reader.field(fill, 0, 1, Refusal::SpareBits)?;
     if !at_end(reader) {
         return Err(Refusal::SpareBits);
     }
-    Ok(rules)
+    Ok(*rules)
 }
 
 // Reads a file: its rules, or the first refusal in reading order; and how many bits were taken: with the rules or where it ends early all bits of
@@ -49,8 +55,9 @@ pub fn read_rules(file: &[u8]) -> Parsed
     ensures answer { answer_of result.answer ≡ reading file.now }
     ensures bits { result.bits ≡ bits_taken file.now }
 {
-    let mut reader = FileReader::new(file);
-    let answer = read_whole(&mut reader);
+    let mut rules = no_rules();
+    let (read, mut reader) = read_policy(file, &mut rules);
+    let answer = read_end(&mut reader, read, &rules);
     let bits = reader.taken();
     Parsed { answer, bits }
 }

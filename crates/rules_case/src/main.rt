@@ -6,6 +6,7 @@ ghost use Rattle.std.specs.Prelude.{◌≤◌, length};
 
 mod record;
 
+use policy::no_rules;
 use std::io;
 use std::io::Read;
 
@@ -25,8 +26,9 @@ fn print_bytes(rt: &impl Print, bytes: &[u8]) -> io::Result<()>
 // Writes the rules of a record to as many bytes as it says, and prints what comes of it.
 fn answer(rt: &impl Print, bytes: &[u8]) -> io::Result<()> {
     let mut out = [0; 4096];
-    let record = record::read(bytes);
-    match rules::write_rules(record.rules, &mut out[..record.room]) {
+    let mut rules = no_rules();
+    let room = record::read(bytes, &mut rules);
+    match rules::write_rules(rules, &mut out[..room]) {
         Ok(n) => print_bytes(rt, &out[..n.min(4096)]),
         Err(refusal) => println!(rt; "REFUSED {}", u8::from(refusal)),
     }

@@ -4,15 +4,7 @@
 // in all.
 ghost use Rattle.std.specs.Prelude.{◌≤◌};
 
-use policy::{Attribute, Class, Classes, Rules, Session, Sessions, Values};
-
-// What a record says: the rules, and how many bytes are lent to the writer, at most 4,096.
-#[derive(Drop)]
-pub(super) struct Record {
-    pub rules: Rules,
-    pub room: usize,
-    ghost room_fits: { room ≤ 4096 },
-}
+use policy::{Class, Rules, Sessions, Values};
 
 // The bytes of a record that are not read yet.
 #[derive(Drop)]
@@ -32,77 +24,71 @@ impl Bytes<'_> {
         }
     }
 
+    // The next byte; zero where none is left.
     fn byte(&mut self) -> u8 {
-        u8::from_le_bytes(self.next())
-    }
-
-    fn words<const N: usize>(&mut self) -> [u32; N] {
-        let mut words = [0; N];
-        for word in words.iter_mut() {
-            *word = u32::from_le_bytes(self.next());
+        match self.left.split_first() {
+            Some((first, rest)) => {
+                self.left = rest;
+                *first
+            }
+            None => 0,
         }
-        words
     }
 
-    fn class(&mut self) -> Class {
-        let count = self.byte();
-        let mut attributes = [Attribute::NONE; 8];
-        for attribute in attributes.iter_mut() {
+    fn class(&mut self, class: &mut Class) {
+        class.count = self.byte();
+        for attribute in class.attributes.iter_mut() {
             attribute.kind = self.byte();
         }
-        for attribute in attributes.iter_mut() {
+        for attribute in class.attributes.iter_mut() {
             attribute.size = self.byte();
         }
-        for attribute in attributes.iter_mut() {
+        for attribute in class.attributes.iter_mut() {
             attribute.list = self.byte();
         }
-        Class { count, attributes }
     }
 
-    fn classes(&mut self) -> Classes {
-        Classes {
-            user: self.class(),
-            session: self.class(),
-            item: self.class(),
-        }
+    fn values(&mut self, values: &mut Values) {
+        values.count = self.byte();
+        values.values = self.next();
     }
 
-    fn values(&mut self) -> Values {
-        Values {
-            count: self.byte(),
-            values: self.next(),
-        }
-    }
-
-    fn sessions(&mut self) -> Sessions {
-        let count = self.byte();
-        let mut sessions = [Session::NONE; 32];
-        for session in sessions.iter_mut() {
+    fn sessions(&mut self, sessions: &mut Sessions) {
+        sessions.count = self.byte();
+        for session in sessions.sessions.iter_mut() {
             session.user = self.byte();
         }
-        for session in sessions.iter_mut() {
+        for session in sessions.sessions.iter_mut() {
             session.value = self.byte();
         }
-        Sessions { count, sessions }
     }
 
-    fn rules(&mut self) -> Rules {
-        Rules {
-            classes: self.classes(),
-            users: self.values(),
-            sessions: self.sessions(),
-            items: self.values(),
-            permissions: self.byte(),
-            lengths: self.next(),
-            nodes: self.words(),
+    fn nodes(&mut self, nodes: &mut [u32; 768]) {
+        let bytes: [u8; 3072] = self.next();
+        for k in 0..768 {
+            nodes[k] = u32::from_le_bytes([
+                bytes[4 * k],
+                bytes[4 * k + 1],
+                bytes[4 * k + 2],
+                bytes[4 * k + 3],
+            ]);
         }
     }
 }
 
-// The record that these bytes hold.
-pub(super) fn read(bytes: &[u8]) -> Record {
+// Reads the rules that a record holds, and returns how many bytes are lent to the writer, at most 4,096.
+pub(super) fn read(bytes: &[u8], rules: &mut Rules) -> usize
+    ensures { result ≤ 4096 }
+{
     let mut bytes = Bytes { left: bytes };
-    let rules = bytes.rules();
-    let room = u16::from_le_bytes(bytes.next()).min(4096) as usize;
-    Record { rules, room }
+    bytes.class(&mut rules.classes.user);
+    bytes.class(&mut rules.classes.session);
+    bytes.class(&mut rules.classes.item);
+    bytes.values(&mut rules.users);
+    bytes.sessions(&mut rules.sessions);
+    bytes.values(&mut rules.items);
+    rules.permissions = bytes.byte();
+    rules.lengths = bytes.next();
+    bytes.nodes(&mut rules.nodes);
+    u16::from_le_bytes(bytes.next()).min(4096) as usize
 }

@@ -1,5 +1,5 @@
--- Laws of starting. In order: cells over the front of others, one more of them at a time; the cells of the starting sessions and items, with
--- none, one more and how many; what starting answers; list numbers do not matter.
+-- Laws of starting. In order: cells over the front of others; the cells of the starting sessions and items, how many and place by place; how many
+-- starting sessions there are; list numbers do not matter.
 use mathlib.Core.Path.{◌≡◌, refl, sym, ap, ◌∙◌}
 use mathlib.Core.List.{List, ◌++◌}
 use Prim.Native.Nat.{ℕ, ◌≤◌, ◌<◌}

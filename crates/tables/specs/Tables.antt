@@ -1,7 +1,7 @@
 -- The tables of a formula's comparisons: which rows of the area are written, and what they say. L, R and O are the numbers of the lane, the row and the
 -- outer holder.
 -- Assumes nothing.
-use Rattle.std.specs.Prelude.{◌≡◌, Bool, false, List, ℕ, ◌+◌, ◌≤◌, ◌<◌, get_or}
+use Rattle.std.specs.Prelude.{◌≡◌, Bool, false, List, ℕ, ◌+◌, ◌≤◌, ◌<◌, length, get_or}
 use Rattle.policy.specs.Policy.{Lists}
 use Rattle.policy.specs.Nodes.{op_of}
 use Rattle.bitsets.specs.Rows.{bit_at}
@@ -12,7 +12,11 @@ use Rattle.tables.specs.declared.On.{On}
 
 -- which of the three holders node k depends on
 abbrev pub marks_at : Marks → ℕ → On
-marks_at m k = record { lane = get_or m.lane k false; row = get_or m.row k false; outer = get_or m.outer k false }
+marks_at m k = record { lane = get_or m.lane.now k false; row = get_or m.row.now k false; outer = get_or m.outer.now k false }
+
+-- the first n nodes have their marks
+abbrev pub Marked : ℕ → Marks → Type 0
+Marked n m = (n ≤ length m.lane.now) × (n ≤ length m.row.now) × (n ≤ length m.outer.now)
 
 -- the table of one node, which depends on the holders that the three flags tell of, begins at row base; the rows before it stay. A node that joins
 -- others has none

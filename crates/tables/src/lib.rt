@@ -5,13 +5,12 @@ ghost use Rattle.std.specs.Prelude.{◌≡◌, ◌+◌, ◌*◌, ◌≤◌, ◌<
 ghost use Rattle.policy.specs.Policy.{width};
 ghost use Rattle.policy.specs.Nodes.{of_holder};
 ghost use Rattle.policy.specs.Rules.{lists_of};
-ghost use Rattle.prepared.specs.Prepared.{room_of};
+ghost use Rattle.prepared.specs.Prepared.{room_of, table_at};
 
 use leaves::fill;
 use planes::class_of;
 use policy::Classes;
 use policy::shape::class_width;
-use prepared::Roles;
 
 // The bits of a packed value of holder h.
 fn width_of(classes: Classes, h: u8) -> usize
@@ -42,18 +41,18 @@ pub struct On {
 
 // Which nodes of a formula depend on each of the three holders.
 #[derive(Clone, Copy)]
-pub struct Marks {
-    pub lane: [bool; 64],
-    pub row: [bool; 64],
-    pub outer: [bool; 64],
+pub struct Marks<'a> {
+    pub lane: &'a [bool],
+    pub row: &'a [bool],
+    pub outer: &'a [bool],
 }
 
-impl Marks {
-    ghost use Rattle.tables.specs.Tables.{marks_at};
+impl Marks<'_> {
+    ghost use Rattle.tables.specs.Tables.{marks_at, Marked};
 
     // Which of the three node k depends on.
     pub fn at(&self, k: usize) -> On
-        requires { k < 64 }
+        requires { Marked (k + 1) self.now }
         ensures { result ≡ marks_at self.now k }
     {
         On {
@@ -64,81 +63,105 @@ impl Marks {
     }
 }
 
-// What the tables of a formula go by: the lists, which holder has which part, how many values of the row holder and of the outer holder are told apart,
-// and for how many rows each table has place.
+// Where the table of node k begins, if each table has place for `room` rows.
+#[tactic(auto, unfolding(prepared::specs::Prepared::table_at))]
+pub fn table_at(room: usize, k: usize) -> usize
+    requires { (k < 64) × (room ≤ 256) }
+    ensures { result ≡ table_at room k }
+{
+    193 + k * room
+}
+
+// What the tables of a formula go by: the lists, the lane, the row and the outer holder, how many values of the row holder and of the outer holder are told
+// apart, and for how many rows each table has place.
 #[derive(Clone, Copy)]
 pub struct Layout {
     pub classes: Classes,
-    pub roles: Roles,
+    pub lane: u8,
+    pub row: u8,
+    pub outer: u8,
     pub rows: usize,
     pub outers: usize,
     pub room: usize,
-    pub ghost rows_told: { rows ≡ room_of (lists_of classes) roles.row },
-    pub ghost outers_told: { outers ≡ room_of (lists_of classes) roles.outer },
+    pub ghost rows_told: { rows ≡ room_of (lists_of classes) row },
+    pub ghost outers_told: { outers ≡ room_of (lists_of classes) outer },
     pub ghost rows_in_range: { (0 < rows) × (rows ≤ 256) },
     pub ghost outers_in_range: { (0 < outers) × (outers ≤ 256) },
-    pub ghost larger_room: { room ≡ max rows outers },
+    pub ghost room_enough: { (rows ≤ room) × (outers ≤ room) × (room ≤ 256) },
 }
 
 impl Layout {
-    ghost use Rattle.prepared.specs.Prepared.{table_at, lane_for, row_for, rows_for};
-    ghost use Rattle.tables.specs.Tables.{Table, Tables};
+    ghost use Rattle.prepared.specs.Prepared.{lane_for, row_for, rows_for};
+    ghost use Rattle.tables.specs.Tables.{Table, Tables, Marked};
 
-    // By the lists and the holders.
-    pub fn new(classes: Classes, roles: Roles) -> Self
+    // By the lists and the holders, with place for as many rows as either of the two has values.
+    pub fn new(classes: Classes, lane: u8, row: u8, outer: u8) -> Self
         ensures classes { result.classes ≡ classes }
-        ensures roles { result.roles ≡ roles }
+        ensures holders { (result.lane ≡ lane) × (result.row ≡ row) × (result.outer ≡ outer) }
+        ensures room { result.room ≡ max result.rows result.outers }
     {
-        let rows = room_of(classes, roles.row);
-        let outers = room_of(classes, roles.outer);
+        let rows = room_of(classes, row);
+        let outers = room_of(classes, outer);
         Layout {
             classes,
-            roles,
+            lane,
+            row,
+            outer,
             rows,
             outers,
             room: rows.max(outers),
         }
     }
 
+    // The same with place for `room` rows in each table.
+    pub fn with_room(mut self, room: usize) -> Self
+        requires { (self.rows ≤ room) × (self.outers ≤ room) × (room ≤ 256) }
+        ensures classes { result.classes ≡ self.classes }
+        ensures holders { (result.lane ≡ self.lane) × (result.row ≡ self.row) × (result.outer ≡ self.outer) }
+        ensures room { result.room ≡ room }
+    {
+        self.room = room;
+        self
+    }
+
     // Where the table of node k begins.
-    #[tactic(auto, unfolding(prepared::specs::Prepared::table_at))]
     pub fn table_at(&self, k: usize) -> usize
         requires { k < 64 }
         ensures { result ≡ table_at self.now.room k }
     {
-        193 + k * self.room
+        table_at(self.room, k)
     }
 
     // The holder whose values a comparison's bits stand for.
     #[tactic(auto, unfolding(prepared::specs::Prepared::lane_for))]
     fn lane_for(&self, on: On) -> u8
-        ensures { result ≡ lane_for self.now.roles.lane self.now.roles.row self.now.roles.outer on.lane on.row }
+        ensures { result ≡ lane_for self.now.lane self.now.row self.now.outer on.lane on.row }
     {
         if on.lane {
-            self.roles.lane
+            self.lane
         } else if on.row {
-            self.roles.row
+            self.row
         } else {
-            self.roles.outer
+            self.outer
         }
     }
 
     // The holder whose values its rows stand for.
     #[tactic(auto, unfolding(prepared::specs::Prepared::row_for))]
     fn row_for(&self, on: On) -> u8
-        ensures { result ≡ row_for self.now.roles.lane self.now.roles.row self.now.roles.outer on.lane on.row }
+        ensures { result ≡ row_for self.now.lane self.now.row self.now.outer on.lane on.row }
     {
         if on.lane && on.row {
-            self.roles.row
+            self.row
         } else {
-            self.roles.outer
+            self.outer
         }
     }
 
     // How many rows it has.
     #[tactic(auto, unfolding(prepared::specs::Prepared::rows_for, prepared::specs::Prepared::row_for))]
     fn rows_for(&self, on: On) -> usize
-        ensures { result ≡ rows_for (lists_of self.now.classes) self.now.roles.lane self.now.roles.row self.now.roles.outer on.lane on.row on.outer }
+        ensures { result ≡ rows_for (lists_of self.now.classes) self.now.lane self.now.row self.now.outer on.lane on.row on.outer }
     {
         if on.lane && on.row {
             self.rows
@@ -152,7 +175,7 @@ impl Layout {
     // The table of a node, from row `base` on.
     fn table(&self, area: &mut [u64], base: usize, node: u32, on: On)
         requires { 4 * (base + self.now.room) ≤ length area.old }
-        ensures table { Table (lists_of self.now.classes) self.now.roles.lane self.now.roles.row self.now.roles.outer on.lane on.row on.outer node base area.old area.new }
+        ensures table { Table (lists_of self.now.classes) self.now.lane self.now.row self.now.outer on.lane on.row on.outer node base area.old area.new }
         ensures area_len_unchanged { length area.new ≡ length area.old }
     {
         if node / 65536 < 5 {
@@ -169,15 +192,24 @@ impl Layout {
         );
     }
 
-    // The tables of the nodes.
-    pub fn fill_tables(&self, area: &mut [u64], nodes: &[u32], marks: &Marks)
-        requires few { length nodes.now ≤ 64 }
+    // The tables of the n nodes of formula f.
+    pub fn fill_tables(
+        &self,
+        area: &mut [u64],
+        nodes: &[u32],
+        f: usize,
+        n: usize,
+        marks: &Marks<'_>,
+    )
+        requires few { n ≤ 64 }
+        requires marked { Marked n marks.now }
         requires area_long { 4 * (193 + 64 * self.now.room) ≤ length area.old }
-        ensures tables { Tables (lists_of self.now.classes) self.now.roles.lane self.now.roles.row self.now.roles.outer marks.now.lane marks.now.row marks.now.outer (λ k. get_or nodes.now k 0) self.now.room (length nodes.now) area.old area.new }
+        ensures tables { Tables (lists_of self.now.classes) self.now.lane self.now.row self.now.outer marks.now.lane.now marks.now.row.now marks.now.outer.now (λ k. get_or nodes.now (64 * f + k) 0) self.now.room n area.old area.new }
         ensures area_len_unchanged { length area.new ≡ length area.old }
     {
-        for (k, node) in nodes.iter().enumerate() {
-            self.table(area, self.table_at(k), *node, marks.at(k));
+        for k in 0..n {
+            let node = formulas::node::at(nodes, f, k);
+            self.table(area, self.table_at(k), node, marks.at(k));
         }
     }
 }

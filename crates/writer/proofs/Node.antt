@@ -8,6 +8,7 @@ use Rattle.std.specs.Result.{result_eq}
 use Rattle.format.specs.Format.{field}
 use Rattle.format.specs.Steps.{Stores}
 use Rattle.format.proofs.Store.{stores-field}
+use Rattle.format.specs.declared.Stopped.{Stopped}
 use Rattle.refusal.specs.declared.Refusal.{Refusal}
 
 -- the outcome of the test where a node may stand, and that of the lists that it compares
@@ -23,7 +24,7 @@ not-node eu er false agree e d = rw e refl
 
 -- so its field is stored by the test where it may stand
 pub node-field : (t : ℕ → Bool) (x : ℕ) (agree : Bool) (eu : Unit {0} → Unit {0} → Bool) (er : Refusal → Refusal → Bool) {checked : Result (Unit {0}) Refusal} {b : Bool} {o o' : List ℕ} {p : ℕ}
-    {r : Result ℕ Refusal}
+    {r : Result ℕ (Stopped Refusal)}
     → checked ≡ outcome (t x) agree
     → b ≡ not (result_eq eu er checked (Err Refusal.Node))
     → er Refusal.Node Refusal.Node ≡ true

@@ -8,6 +8,7 @@ use native.Mathlib.Omega.{arith}
 use Rattle.std.specs.Prelude.{Result, Ok, Err}
 use Rattle.bits.specs.Packed.{tab}
 use Rattle.bits.proofs.Packed.{tab-zero, tab-first}
+use Rattle.format.specs.declared.Stopped.{Stopped}
 use Rattle.refusal.specs.declared.Refusal.{Refusal}
 use Rattle.format.specs.Format.{field, within}
 use Rattle.format.specs.Steps.{Stores}
@@ -23,7 +24,7 @@ attrs_from class i = tab (attr_at class) i (class.count - i)
 
 -- whoever goes on from the place p and stores x by the attributes from attribute i on has stored v by all of them from the place p₀ on
 pub record Onward (class : Class) (v : ℕ) (o₀ : List ℕ) (p₀ : ℕ) (i x : ℕ) (o : List ℕ) (p : ℕ) : Type 0 where
-  pub onward : {o' : List ℕ} {r : Result ℕ Refusal} → Stores (value_format (attrs_from class i)) x o o' p r → Stores (value_format (attrs_of class)) v o₀ o' p₀ r
+  pub onward : {o' : List ℕ} {r : Result ℕ (Stopped Refusal)} → Stores (value_format (attrs_from class i)) x o o' p r → Stores (value_format (attrs_of class)) v o₀ o' p₀ r
 
 module _ (class : Class) where
   pub from_all : attrs_from class 0 ≡ attrs_of class
@@ -44,7 +45,7 @@ module _ (class : Class) where
   pub onward-begin : {v : ℕ} {o₀ : List ℕ} {p₀ : ℕ} → Onward class v o₀ p₀ 0 v o₀ p₀
   onward-begin = record { onward = λ s. rw from_all at s }
 
-  pub onward-end : {v x : ℕ} {o₀ o o' : List ℕ} {p₀ p : ℕ} {r : Result ℕ Refusal} → Onward class v o₀ p₀ class.count x o p → Stores (field 0 (λ _. true) 6) x o o' p r
+  pub onward-end : {v x : ℕ} {o₀ o o' : List ℕ} {p₀ p : ℕ} {r : Result ℕ (Stopped Refusal)} → Onward class v o₀ p₀ class.count x o p → Stores (field 0 (λ _. true) 6) x o o' p r
       → Stores (value_format (attrs_of class)) v o₀ o' p₀ r
   unfolding value_format
   onward-end k s = k.onward (rw from_end s)
@@ -60,7 +61,7 @@ module _ (class : Class) where
 
     module _ {x y : ℕ} {b : Bool} (eb : b ≡ within 0 (codes a) y) (ey : y ≡ x / 2 ^ (n - w)) {v : ℕ}
         {o₀ o o' : List ℕ} {p₀ p : ℕ} (before : Onward class v o₀ p₀ i x o p) where
-      first_field : {r : Result ℕ Refusal} → Stores (field w (λ _. b) 6) y o o' p r
+      first_field : {r : Result ℕ (Stopped Refusal)} → Stores (field w (λ _. b) 6) y o o' p r
           → (let d = attr_at class i in Stores (field (bits_for d) (within 0 (codes d)) 6) (x / 2 ^ width (attrs_from class (i + 1))) o o' p r)
       first_field t = rw (← left, ← ey, ← here, ← ew) (stores-field w (within 0 (codes a)) 6 y eb t)
 
@@ -72,6 +73,6 @@ module _ (class : Class) where
           record { onward = λ u. before.onward (rw (from_next i h) (stores-via _ _ _ x (stores-pair _ _ (first_field t) (rw e at u)))) }
 
       -- it is refused
-      pub onward-stop : {refusal : Refusal} → Stores (field w (λ _. b) 6) y o o' p (Err refusal) → Stores (value_format (attrs_of class)) v o₀ o' p₀ (Err refusal)
+      pub onward-stop : {stopped : Stopped Refusal} → Stores (field w (λ _. b) 6) y o o' p (Err stopped) → Stores (value_format (attrs_of class)) v o₀ o' p₀ (Err stopped)
       unfolding value_format
       onward-stop t = before.onward (rw (from_next i h) (stores-via _ _ _ x (stores-first _ _ (first_field t))))

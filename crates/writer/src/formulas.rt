@@ -1,12 +1,12 @@
 // The formulas.
-ghost use Rattle.std.specs.Prelude.{◌≡◌, ◌+◌, ◌*◌, ◌^◌, ◌≤◌, ◌<◌, length, IfOk};
+ghost use Rattle.std.specs.Prelude.{◌≡◌, ◌+◌, ◌*◌, ◌^◌, ◌≤◌, ◌<◌, length};
 ghost use Rattle.format.specs.Format.{Format, rows};
-ghost use Rattle.format.specs.Steps.{Stores};
+ghost use Rattle.format.specs.Steps.{place_of, Stores};
 ghost use Rattle.policy.specs.File.{node_format, formula_format};
 ghost use Rattle.policy.specs.Rules.{lists_of, nodes_of, formulas_of};
 
 use bits::get_or;
-use format::put_field;
+use format::{Stopped, put_field};
 use policy::Classes;
 use policy::nodes::check_node;
 use refusal::Refusal;
@@ -20,10 +20,10 @@ fn put_node(
     f: usize,
     i: usize,
     x: u32,
-) -> Result<usize, Refusal>
+) -> Result<usize, Stopped<Refusal>>
     requires { at < 2 ^ 39 }
     ensures stores { Stores (node_format (lists_of classes) f i) x out.old out.new at result }
-    ensures pos_bound { IfOk result (λ next. next ≤ at + 20) }
+    ensures pos_bound { place_of result ≤ at + 20 }
 {
     let checked = check_node(classes, f, i, x);
     let next = put_field(
@@ -34,8 +34,10 @@ fn put_node(
         checked != Err(Refusal::Node),
         Refusal::Node,
     )?;
-    checked?;
-    Ok(next)
+    match checked {
+        Ok(()) => Ok(next),
+        Err(refusal) => Err(Stopped { refusal, at: next }),
+    }
 }
 
 // The n nodes of formula f.
@@ -46,10 +48,10 @@ fn put_nodes(
     f: usize,
     n: u8,
     nodes: &[u32],
-) -> Result<usize, Refusal>
+) -> Result<usize, Stopped<Refusal>>
     requires { (f < 512) × (at < 2 ^ 38) }
     ensures stores { Stores (rows n (λ l. node_format (lists_of classes) f (length l))) (nodes_of nodes.now f n) out.old out.new at result }
-    ensures pos_bound { IfOk result (λ next. next ≤ at + 20 * 255) }
+    ensures pos_bound { place_of result ≤ at + 20 * 255 }
 {
     let mut next = at;
     for i in 0..n as usize {
@@ -67,10 +69,10 @@ fn put_formula(
     f: usize,
     n: u8,
     nodes: &[u32],
-) -> Result<usize, Refusal>
+) -> Result<usize, Stopped<Refusal>>
     requires { (f < 512) × (at < 2 ^ 37) }
     ensures stores { Stores (formula_format (lists_of classes) f) (nodes_of nodes.now f n) out.old out.new at result }
-    ensures pos_bound { IfOk result (λ next. next ≤ at + 5108) }
+    ensures pos_bound { place_of result ≤ at + 5108 }
 {
     let at = put_range(out, at, 8, n, 1, 65, Refusal::Node)?;
     put_nodes(out, at, classes, f, n, nodes)
@@ -84,10 +86,10 @@ pub(super) fn put_formulas(
     permissions: u8,
     lengths: &[u8],
     nodes: &[u32],
-) -> Result<usize, Refusal>
+) -> Result<usize, Stopped<Refusal>>
     requires { at < 2 ^ 36 }
     ensures stores { Stores (rows (4 + permissions) (λ l. formula_format (lists_of classes) (length l))) (formulas_of nodes.now lengths.now (4 + permissions)) out.old out.new at result }
-    ensures pos_bound { IfOk result (λ next. next ≤ at + 5108 * 259) }
+    ensures pos_bound { place_of result ≤ at + 5108 * 259 }
 {
     let mut next = at;
     for f in 0..4 + permissions as usize {

@@ -1,16 +1,18 @@
 // Writing rules, part by part in the file's order. Each part judges its fields and stores them, and gives the place after them, in bits, or the
-// refusal of the first field that is refused, which ends the writing. A field that has no room is judged and not stored.
+// refusal of the first field that is refused, which ends the writing, with the place after those before it. A field that has no room is judged
+// and not stored.
 #![tactic(auto)]
 
-ghost use Rattle.std.specs.Prelude.{◌≡◌, ◌^◌, ◌<◌, IfOk};
+ghost use Rattle.std.specs.Prelude.{◌≡◌, ◌^◌, ◌<◌};
 ghost use Rattle.format.specs.Format.{Format};
-ghost use Rattle.format.specs.Steps.{Stores};
+ghost use Rattle.format.specs.Steps.{place_of, Stores};
 ghost use Rattle.policy.specs.File.{policy_format};
 ghost use Rattle.policy.specs.Rules.{policy_of};
 
 mod formulas;
 mod values;
 
+use format::Stopped;
 use formulas::put_formulas;
 use policy::Rules;
 use refusal::Refusal;
@@ -19,9 +21,9 @@ use writer_head::lists::put_classes;
 use writer_head::{Counts, put_counts};
 
 // The whole file up to its filling bits.
-pub fn put_policy(out: &mut [u8], rules: Rules) -> Result<usize, Refusal>
+pub fn put_policy(out: &mut [u8], rules: Rules) -> Result<usize, Stopped<Refusal>>
     ensures stores { Stores policy_format (policy_of rules) out.old out.new 0 result }
-    ensures pos_bound { IfOk result (λ end. end < 2 ^ 36) }
+    ensures pos_bound { place_of result < 2 ^ 36 }
 {
     let classes = rules.classes;
     let users = rules.users;

@@ -1,13 +1,13 @@
 // The values of holders, and the starting sessions.
-ghost use Rattle.std.specs.Prelude.{◌≡◌, ◌+◌, ◌*◌, ◌^◌, ◌≤◌, ◌<◌, IfOk};
+ghost use Rattle.std.specs.Prelude.{◌≡◌, ◌+◌, ◌*◌, ◌^◌, ◌≤◌, ◌<◌};
 ghost use Rattle.format.specs.Format.{Format, rows};
-ghost use Rattle.format.specs.Steps.{Stores};
+ghost use Rattle.format.specs.Steps.{place_of, Stores};
 ghost use Rattle.policy.specs.Policy.{width as width_of};
 ghost use Rattle.policy.specs.File.{value_format, session_format};
 ghost use Rattle.policy.specs.Rules.{attrs_of, values_of, as_session, sessions_of};
 
 use bits::{high_bits, low_bits};
-use format::put_field;
+use format::{Stopped, put_field};
 use policy::shape::class_width;
 use policy::{Class, Session, Sessions, Values};
 use refusal::Refusal;
@@ -15,10 +15,16 @@ use writer_head::put_range;
 
 // A holder's value: its attributes' values one after another, `width` bits in all. What is left above the first attribute's codes is judged with
 // it, and with no attribute only 0 is a value.
-fn put_value(out: &mut [u8], at: usize, class: Class, width: usize, v: u8) -> Result<usize, Refusal>
+fn put_value(
+    out: &mut [u8],
+    at: usize,
+    class: Class,
+    width: usize,
+    v: u8,
+) -> Result<usize, Stopped<Refusal>>
     requires { (at < 2 ^ 38) × (width ≡ width_of (attrs_of class)) }
     ensures stores { Stores (value_format (attrs_of class)) v out.old out.new at result }
-    ensures pos_bound { IfOk result (λ next. next ≤ at + 65025) }
+    ensures pos_bound { place_of result ≤ at + 65025 }
 {
     let count = class.count;
     let mut rest = width;
@@ -41,10 +47,10 @@ pub(super) fn put_values(
     at: usize,
     class: Class,
     values: Values,
-) -> Result<usize, Refusal>
+) -> Result<usize, Stopped<Refusal>>
     requires { at < 2 ^ 36 }
     ensures stores { Stores (rows values.count (λ _. value_format (attrs_of class))) (values_of values) out.old out.new at result }
-    ensures pos_bound { IfOk result (λ next. next ≤ at + 65025 * 255) }
+    ensures pos_bound { place_of result ≤ at + 65025 * 255 }
 {
     let width = class_width(class);
     let count = values.count;
@@ -64,10 +70,10 @@ fn put_session(
     width: usize,
     users: u8,
     session: Session,
-) -> Result<usize, Refusal>
+) -> Result<usize, Stopped<Refusal>>
     requires { (at < 2 ^ 37) × (width ≡ width_of (attrs_of class)) }
     ensures stores { Stores (session_format users (attrs_of class)) (as_session session) out.old out.new at result }
-    ensures pos_bound { IfOk result (λ next. next ≤ at + 65029) }
+    ensures pos_bound { place_of result ≤ at + 65029 }
 {
     let at = put_range(out, at, 4, session.user, 0, users as u64, Refusal::User)?;
     put_value(out, at, class, width, session.value)
@@ -80,10 +86,10 @@ pub(super) fn put_sessions(
     class: Class,
     users: u8,
     sessions: Sessions,
-) -> Result<usize, Refusal>
+) -> Result<usize, Stopped<Refusal>>
     requires { at < 2 ^ 36 }
     ensures stores { Stores (rows sessions.count (λ _. session_format users (attrs_of class))) (sessions_of sessions) out.old out.new at result }
-    ensures pos_bound { IfOk result (λ next. next ≤ at + 65029 * 255) }
+    ensures pos_bound { place_of result ≤ at + 65029 * 255 }
 {
     let width = class_width(class);
     let count = sessions.count;

@@ -1,17 +1,16 @@
 // Storing what stands before the values of a file: the head, the lists of attributes (lists), and the one step that most fields are stored by.
 #![tactic(auto)]
 
-ghost use Rattle.std.specs.Prelude.{◌≡◌, ◌+◌, ◌^◌, ◌≤◌, ◌<◌, IfOk};
+ghost use Rattle.std.specs.Prelude.{◌≡◌, ◌+◌, ◌^◌, ◌≤◌, ◌<◌};
 ghost use Rattle.format.specs.Format.{Format, field, within as within_of};
-ghost use Rattle.format.specs.Steps.{Stores};
+ghost use Rattle.format.specs.Steps.{place_of, StoresBy, Stores};
 ghost use Rattle.policy.specs.File.{head_format};
-ghost use Rattle.refusal.specs.Number.{number_of};
 ghost use Rattle.writer_head.specs.Parts.{head_of};
 
 pub mod lists;
 
-use format::put_field;
-use refusal::Refusal;
+use format::{Stopped, put_field};
+use refusal::{Numbered, Refusal};
 
 // The head's counts.
 #[derive(Clone, Copy)]
@@ -26,28 +25,28 @@ pub struct Counts {
 }
 
 // A field of w bits from lo up to, not including, end; any other number is refused.
-pub fn put_range(
+pub fn put_range<E: Numbered>(
     out: &mut [u8],
     at: usize,
     w: u8,
     x: u8,
     lo: u64,
     end: u64,
-    refusal: Refusal,
-) -> Result<usize, Refusal>
+    refusal: E,
+) -> Result<usize, Stopped<E>>
     requires { at < 2 ^ 40 }
-    ensures stores { Stores (field w (within_of lo end) (number_of refusal)) x out.old out.new at result }
-    ensures pos_bound { IfOk result (λ next. next ≤ at + w) }
+    ensures stores { StoresBy E.numbered (field w (within_of lo end) (E.numbered refusal)) x out.old out.new at result }
+    ensures pos_bound { place_of result ≤ at + w }
 {
     let y = x as u64;
     put_field(out, at, w, y, (lo..end).contains(&y), refusal)
 }
 
 // The head's counts.
-pub fn put_counts(out: &mut [u8], at: usize, h: Counts) -> Result<usize, Refusal>
+pub fn put_counts(out: &mut [u8], at: usize, h: Counts) -> Result<usize, Stopped<Refusal>>
     requires { at < 2 ^ 39 }
     ensures stores { Stores head_format (head_of h) out.old out.new at result }
-    ensures pos_bound { IfOk result (λ next. next ≤ at + 40) }
+    ensures pos_bound { place_of result ≤ at + 40 }
 {
     let at = put_range(out, at, 4, h.user, 0, 9, Refusal::Count)?;
     let at = put_range(out, at, 4, h.session, 0, 9, Refusal::Count)?;

@@ -5,7 +5,7 @@ use Prim.Native.Nat.{ℕ, ◌-◌, ◌≤◌}
 use native.Mathlib.Omega.{arith}
 use lib.ListN.{length, take, drop, length-drop}
 use lib.Seq.{take_all}
-use Rattle.analyser.specs.Told.{refused, told_of, rows_of}
+use Rattle.analyser.specs.Told.{refused, told_in, told_of, rows_of}
 use Rattle.analyser.specs.Means.{Means}
 use Rattle.refusal.specs.Number.{number_of}
 use Rattle.program.specs.Program.{TooShort}
@@ -13,7 +13,7 @@ use Rattle.program.proofs.Laws.{short-means, long-means}
 use Rattle.program.proofs.answer_of.Goals as goal
 
 pub returns-then-input-lt-BYTES : goal.returns-then-input-lt-BYTES
-unfolding told_of refused TooShort number_of
+unfolding told_in refused TooShort number_of
 returns-then-input-lt-BYTES c =
     let a = c.args in
     short-means a.rows.now a.rows.now (refused 1) 0 a.input.now (omega arith) (refl, refl, refl)

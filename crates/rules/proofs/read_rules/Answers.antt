@@ -9,9 +9,9 @@ use Rattle.rules.proofs.read_rules.Goals as goal
 
 pub returns : goal.returns
 returns c =
-    let whole : res_of policy_of c.read_whole-answer.result c.read_whole-answer.new.reader.bits.at ≡ read_file policy_format c.args.file.now =
-    rw c.new-reader.ensures.source at c.read_whole-answer.ensures in
-    let count = c.read_whole-answer.new.reader.count_is_place in record {
+    let whole : res_of policy_of c.read_end-answer.result c.read_end-answer.new.reader.bits.at ≡ read_file policy_format c.args.file.now =
+    rw c.read_policy-read.ensures.source at c.read_end-answer.ensures in
+    let count = c.read_end-answer.new.reader.count_is_place in record {
       answer = whole-answer _ _ _ whole;
       bits = c.taken-bits.ensures ∙ count ∙ whole-bits _ _ _ whole;
     }

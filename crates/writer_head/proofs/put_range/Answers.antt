@@ -6,4 +6,4 @@ use Rattle.format.proofs.Store.{stores-field}
 use Rattle.writer_head.proofs.put_range.Goals as goal
 
 pub returns-clause-stores : goal.returns-clause-stores
-returns-clause-stores c = let a = c.args in stores-field a.w (within a.lo a.end) _ a.x (c.contains.ensures.value ∙ within-range a.lo a.end a.x) c.put_field.ensures.stores
+returns-clause-stores g c = let a = c.args in stores-field a.w (within a.lo a.end) _ a.x (c.contains.ensures.value ∙ within-range a.lo a.end a.x) c.put_field.ensures.stores

@@ -4,6 +4,7 @@ use native.Mathlib.Omega.{arith}
 use Rattle.bitsets.proofs.Rows.{rows_as}
 use Rattle.bitsets.proofs.Steps.{ran-alike}
 use Rattle.prepared.specs.Prepared.{begun}
+use Rattle.prepared.specs.StepList.{listed}
 use Rattle.prepared.proofs.Plan.begin.Goals as goal
 
 pub run-requires : goal.run-requires
@@ -18,4 +19,4 @@ unfolding begun
 returns-clause-rows c =
     let p = c.args.self.now in
     rows_as _ _ _ c.run-2.ensures.rows
-    (λ b v h. ran-alike p.board 0 _ _ _ (omega (arith, p.outers_in_range, mod-lt c.args.o p.outers_in_range.0)) c.run.ensures.rows.each _ b v h)
+    (λ b v h. ran-alike (listed p.board) 0 _ _ _ (omega (arith, p.outers_in_range, mod-lt c.args.o p.outers_in_range.0)) c.run.ensures.rows.each _ b v h)

@@ -13,9 +13,9 @@ pub fill-requires : goal.fill-requires
 fill-requires c =
     let y = c.args.self.now in
     let on = c.args.on in
-    let w = rows_few (lists_of y.classes) y.roles.lane y.roles.row y.roles.outer y.room (omega (arith, y.rows_in_range, y.larger_room))
-    (omega (arith, y.rows_told, y.larger_room)) (omega (arith, y.outers_told, y.larger_room)) on.lane on.row on.outer in
-    (omega (arith, w, c.rows_for.ensures, y.larger_room, y.rows_in_range, y.outers_in_range), omega (arith, w, c.rows_for.ensures))
+    let w = rows_few (lists_of y.classes) y.lane y.row y.outer y.room (omega (arith, y.rows_in_range, y.room_enough))
+    (omega (arith, y.rows_told, y.room_enough)) (omega (arith, y.outers_told, y.room_enough)) on.lane on.row on.outer in
+    (omega (arith, w, c.rows_for.ensures, y.room_enough, y.rows_in_range, y.outers_in_range), omega (arith, w, c.rows_for.ensures))
 
 pub returns-clause-table : goal.returns-clause-table
 returns-clause-table c = table_filled _ _ _ _ _ _ _ _ _ _ _ _ _ _ c.rows_for.ensures c.lane_for.ensures c.row_for.ensures c.fill.ensures.rows

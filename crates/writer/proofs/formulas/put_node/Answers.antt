@@ -17,21 +17,21 @@ returns-in_err-next-clause-stores c =
     let l = lists_of a.classes in
     stores-given c.from_residual.ensures.1 (before_check _ _ 19 (node-field (node_ok l a.f a.i) a.x (lists_agree l a.x) _ _ c.check_node-checked.ensures c.ne.ensures refl refl c.in_err-next.ensures.stores))
 
-pub returns-in_err-checked-clause-stores : goal.returns-in_err-checked-clause-stores
+pub returns-in-Ok-clause-stores : goal.returns-in-Ok-clause-stores
 unfolding node_format number_of
-returns-in_err-checked-clause-stores c =
+returns-in-Ok-clause-stores c =
     let a = c.args in
     let l = lists_of a.classes in
     let stored = node-field (node_ok l a.f a.i) a.x (lists_agree l a.x) _ _ c.check_node-checked.ensures c.ne.ensures refl refl c.in_ok-next.ensures.stores in
     let ok = (judged-field 20 (node_ok l a.f a.i) 8 a.x (no-fault stored)).1 in
-    let (differ, is) = outcome-err (lists_agree l a.x) _ (rw ok at (sym c.in_err-checked.was ∙ c.check_node-checked.ensures)) in
-    stores-given c.from_residual-in_err-checked.ensures.1 (rw is (check-fails _ _ Refusal.Lists stored differ))
+    stores-check _ _ 19 stored (outcome-ok (lists_agree l a.x) _ (rw ok at (sym c.in-Ok.is ∙ c.check_node-checked.ensures)))
 
-pub returns-clause-stores : goal.returns-clause-stores
+pub returns-in-Err-clause-stores : goal.returns-in-Err-clause-stores
 unfolding node_format number_of
-returns-clause-stores c =
+returns-in-Err-clause-stores c =
     let a = c.args in
     let l = lists_of a.classes in
     let stored = node-field (node_ok l a.f a.i) a.x (lists_agree l a.x) _ _ c.check_node-checked.ensures c.ne.ensures refl refl c.in_ok-next.ensures.stores in
     let ok = (judged-field 20 (node_ok l a.f a.i) 8 a.x (no-fault stored)).1 in
-    stores-check _ _ 19 stored (outcome-ok (lists_agree l a.x) _ (rw ok at (sym c.in_ok-checked.was ∙ c.check_node-checked.ensures)))
+    let (differ, is) = outcome-err (lists_agree l a.x) _ (rw ok at (sym c.in-Err.is ∙ c.check_node-checked.ensures)) in
+    rw is (check-fails _ _ Refusal.Lists stored differ)

@@ -4,6 +4,7 @@ use Prim.Native.Nat.{◌≤◌}
 use native.Mathlib.Omega.{arith}
 use lib.ListN.{length}
 use Rattle.prepared.specs.Level.{steps_of}
+use Rattle.prepared.specs.StepList.{listed}
 use Rattle.prepared.proofs.Lists.{steps-few}
 use Rattle.preparing.specs.Levels.{level_steps}
 use Rattle.preparing.proofs.Boards.{table-few, listed-taken, listed-left}
@@ -20,7 +21,7 @@ step-requires c =
       omega arith,
       omega (arith, c.way_of.ensures.on_boards),
       omega (arith, c.way_of.ensures.on_boards),
-      omega (arith, c.table_at.ensures, table-few y.room c.loop-k.k (omega arith) (omega (arith, y.larger_room, y.rows_in_range, y.outers_in_range))),
+      omega (arith, c.table_at.ensures, table-few y.room c.loop-k.k (omega arith) y.room_enough.2),
     )
 
 pub push-requires : goal.push-requires
@@ -33,7 +34,7 @@ pub loop-k-preserved : goal.loop-k-preserved
 loop-k-preserved c =
     elim c.if-chosen.branch [
       | then-chosen w ↦
-          listed-taken _ _ c.loop-k.k c.loop-k.list _ c.loop-k.invariant w.step.result (rw (← c.at-on.ensures) (sym c.chosen.ensures ∙ w.if-chosen.true))
-          (w.step.ensures ∙ rw (w.way_of.ensures.value, c.at-on.ensures, w.table_at.ensures) refl) (w.list-is ∙ w.push.ensures)
-      | else-chosen w ↦ listed-left _ _ c.loop-k.k c.loop-k.list _ c.loop-k.invariant (rw (← c.at-on.ensures) (sym c.chosen.ensures ∙ w.if-chosen.false)) w.list-is
+          listed-taken _ _ c.loop-k.k (listed c.loop-k.list) _ c.loop-k.invariant w.step.result (rw (← c.at-on.ensures) (sym c.chosen.ensures ∙ w.if-chosen.true))
+          (w.step.ensures ∙ rw (w.way_of.ensures.value, c.at-on.ensures, w.table_at.ensures) refl) (ap listed w.list-is ∙ w.push.ensures)
+      | else-chosen w ↦ listed-left _ _ c.loop-k.k (listed c.loop-k.list) _ c.loop-k.invariant (rw (← c.at-on.ensures) (sym c.chosen.ensures ∙ w.if-chosen.false)) (ap listed w.list-is)
     ]

@@ -1,10 +1,10 @@
--- `reader::read_policy` meets its contract: the six parts one after another are the format's, and the counts that the rules keep are the head's.
+-- `reader::read_parts` meets its contract: the six parts one after another are the format's, and the counts that the rules keep are the head's.
 use mathlib.Core.Path.{◌≡◌, refl, sym, ap}
 use mathlib.Core.List.{List, [], ◌++◌}
 use Prim.Native.Nat.{ℕ, ◌+◌, ◌≤◌}
 use native.Mathlib.Omega.{arith}
 use lib.ListN.{length, drop, replicate, get_or-append}
-use Rattle.std.specs.Prelude.{Result}
+use Rattle.std.specs.Prelude.{Result, Ok}
 use Rattle.std.proofs.lemmas.List.{length-take-le}
 use Rattle.bits.proofs.Packed.{tab-ext}
 use Rattle.refusal.specs.declared.Refusal.{Refusal}
@@ -14,10 +14,11 @@ use Rattle.format.specs.declared.file_reader.FileReader.{FileReader}
 use Rattle.format.proofs.Chain.{pair-stops, pair-goes, via-reads, refused, shown}
 use Rattle.policy.specs.Policy.{Lists}
 use Rattle.policy.specs.File.{formula_format, policy_format}
-use Rattle.policy.specs.Rules.{lists_of, nodes_of, formulas_of}
+use Rattle.policy.specs.Rules.{lists_of, nodes_of, formulas_of, policy_of}
+use Rattle.policy.specs.declared.Rules.{Rules}
 use Rattle.reader_head.specs.Parts.{head_of}
 use Rattle.reader.proofs.Counted.{under_head, read-counted}
-use Rattle.reader.proofs.read_policy.Goals as goal
+use Rattle.reader.proofs.read_parts.Goals as goal
 
 -- the lengths that count are in front
 formulas-front : (nodes front back : List ℕ) (m n : ℕ) → m ≡ n → n ≤ length front → formulas_of nodes (front ++ back) m ≡ formulas_of nodes front n
@@ -58,12 +59,16 @@ returns-in_err-read_formulas c =
     let formulas = formulas-read _ _ _ _ _ [] n (omega (arith, c.read_formulas.auto.lengths)) c.in_err-read_formulas.ensures.reads in
     record { reads = refused _ c.from_residual-in_err-read_formulas.result c.from_residual-in_err-read_formulas.ensures.1 (via-reads _ _ _ (pair-goes _ _ c.in_ok-head.ensures.reads (pair-goes _ _ c.in_ok-classes.ensures.reads (pair-goes _ _ c.in_ok-users.ensures.reads (pair-goes _ _ c.in_ok-sessions.ensures.reads (pair-goes _ _ c.in_ok-items.ensures.reads formulas)))))) (omega arith) }
 
+-- the rules by themselves, or beside what was read
+beside : {r : Rules} {old new : FileReader} {most : ℕ} → Reads policy_format most policy_of old new (Ok r) → Reads policy_format most (λ _. policy_of r) old new (Ok (tt {0}))
+beside x = record { answer = x.answer; source = x.source; near = x.near }
+
 pub returns : goal.returns
 unfolding policy_format head_of lists_of under_head
 returns c =
     let n = length-take-le (4 + c.in_ok-head.head.permissions) (replicate 12 0) (omega (arith, c.in_ok-head.head.permissions_range)) in
     let formulas = formulas-read _ _ _ _ _ (drop (4 + c.in_ok-head.head.permissions) (replicate 12 0)) n (omega (arith, c.read_formulas.auto.lengths)) c.in_ok-read_formulas.ensures.reads in
     record {
-      reads = read-counted c.in_ok-head.head _ c.in_ok-users.ensures.all c.in_ok-sessions.ensures.all c.in_ok-items.ensures.all refl _
-          (shown _ _ (via-reads _ _ _ (pair-goes _ _ c.in_ok-head.ensures.reads (pair-goes _ _ c.in_ok-classes.ensures.reads (pair-goes _ _ c.in_ok-users.ensures.reads (pair-goes _ _ c.in_ok-sessions.ensures.reads (pair-goes _ _ c.in_ok-items.ensures.reads formulas)))))) refl (omega arith));
+      reads = beside (read-counted c.in_ok-head.head _ c.in_ok-users.ensures.all c.in_ok-sessions.ensures.all c.in_ok-items.ensures.all refl _
+          (shown _ _ (via-reads _ _ _ (pair-goes _ _ c.in_ok-head.ensures.reads (pair-goes _ _ c.in_ok-classes.ensures.reads (pair-goes _ _ c.in_ok-users.ensures.reads (pair-goes _ _ c.in_ok-sessions.ensures.reads (pair-goes _ _ c.in_ok-items.ensures.reads formulas)))))) refl (omega arith)));
     }
